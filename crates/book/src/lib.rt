@@ -1,0 +1,18 @@
+//! The book of a month in a power pool, kept in memory that the host lends.
+//!
+//! Every call answers, whatever figures and memory it is given; a refusal names its fault and leaves all memory as it was.
+mod agents;
+mod faults;
+mod lines;
+mod months;
+mod statements;
+
+pub use agents::Agent;
+pub use agents::Role;
+pub use faults::BookFault;
+pub use faults::LineFault;
+pub use lines::Class;
+pub use lines::Line;
+pub use months::MonthFigures;
+pub use months::OpenMonth;
+pub use statements::Statement;
