@@ -35,6 +35,10 @@ pub record Outcome (X : Type 0) : Type 0 where
   pub answer : Result X BookFault
   pub memory : Memory
 
+-- what a call answered, with all memory after it
+abbrev pub outcomeOf : {X : Type 0} → Result X BookFault → Memory → Outcome X
+outcomeOf answer memory = record { answer = answer; memory = memory }
+
 -- a refused call leaves all memory as it was
 abbrev pub outcome : {X : Type 0} → Option BookFault → X → (before after : Memory) → Outcome X
 outcome None x before after = record { answer = Ok x; memory = after }

@@ -112,15 +112,19 @@ pub record Figures : Type 0 where
 abbrev pub noFigures : Figures
 noFigures = record { market = pos 0; contract = pos 0; overcost = pos 0; injected = 0; withdrawn = 0 }
 
+-- what a line gives its agent, with the excess that the agent caused and carries
+abbrev pub figuresWith : ℕ → Line → (caused carried : ℕ) → Figures
+figuresWith price l caused carried = record {
+  market = marketLine price l;
+  contract = pos 0;
+  overcost = pos (excessOn price l) -ℤ pos (caused + carried);
+  injected = l .injected;
+  withdrawn = l .withdrawn;
+}
+
 -- what a posting gives the agent at place i
 abbrev pub hourOf : List Agent → ℕ → List Line → ℕ → Figures
-hourOf agents price lines i = record {
-  market = marketLine price (lineAt lines i);
-  contract = pos 0;
-  overcost = overcostLine agents price lines i;
-  injected = lineAt lines i .injected;
-  withdrawn = lineAt lines i .withdrawn;
-}
+hourOf agents price lines i = figuresWith price (lineAt lines i) (causedSum price lines i) (carriedBy agents price lines i)
 
 -- the residue of an hour: what all withdrawn energy is worth less what all injected energy is
 abbrev pub residueOf : ℕ → List Line → ℤ

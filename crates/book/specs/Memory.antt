@@ -80,3 +80,7 @@ sizeFault count hours m = metIf (not (sized count hours m)) WrongSize
 -- 2: a stored figure outside its limit
 abbrev pub storedFault : Memory → Option BookFault
 storedFault m = metIf (not (storedFits m)) StoredOutside
+
+-- all memory, from its parts
+abbrev pub memoryOf : List Agent → List Holding → List (Option Contract) → List ℕ → List Holding → Memory
+memoryOf agents accounts contracts marks entries = record { agents = agents; accounts = accounts; contracts = contracts; marks = marks; entries = entries }

@@ -7,6 +7,10 @@ use Rattle.std.specs.declared.result.Result.the-variants.{Ok, Err}
 use Rattle.book.specs.declared.months.OpenMonth.{OpenMonth}
 use Rattle.book.specs.declared.months.MonthFigures.{MonthFigures}
 
+-- the figures of a month to be opened
+abbrev pub monthFigures : (agents days weekday : ℕ) → MonthFigures
+monthFigures agents days weekday = record { agents = agents; days = days; weekday = weekday }
+
 -- the figures of a month
 abbrev pub figuresOf : OpenMonth → MonthFigures
 figuresOf month = record { agents = month .agents; days = month .days; weekday = month .weekday }

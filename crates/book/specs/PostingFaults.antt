@@ -1,6 +1,7 @@
 -- The faults of a posting's own figures, against the agents and the length of the month. Assumes nothing.
-use Prim.Native.Nat.{ℕ, _+_}
-use mathlib.Core.Bool.{Bool, not, _||_, _&&_}
+use Prim.Native.Nat.{ℕ, _+_, _≤_, _<_}
+use mathlib.Core.Bool.{Bool, true, not, _||_, _&&_}
+use mathlib.Core.Path.{_≡_}
 use mathlib.Core.List.{List, [], _∷_}
 use lib.Dec.{eqb, leb, ltb}
 use lib.ListN.{length}
@@ -52,3 +53,11 @@ lineFault count hours agents hour price lines =
 -- 8: there is obligated excess, and no weight carries it
 abbrev pub uncarried : List Agent → ℕ → List Line → Bool
 uncarried agents price lines = ltb 0 (obligatedSum price lines) && eqb (sum (weightsOf agents lines)) 0
+
+-- the figures of a posting that faults 5 to 7 let pass, as far as valuing asks: few lines, a price and lines within their limits, and so
+-- all withdrawn energy together
+pub record Measured (price : ℕ) (lines : List Line) : Type 0 where
+  pub few-lines : length lines ≤ 64
+  pub price-within : price ≤ 2000000
+  pub each-within : (i : ℕ) → i < length lines → lineWithin (lineAt lines i) ≡ true
+  pub withdrawn-within : withdrawnTogether lines ≤ 4000000

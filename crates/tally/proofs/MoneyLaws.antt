@@ -1,13 +1,11 @@
 -- What joins of money come to. Assumes nothing.
-use mathlib.Core.Path.{_≡_, refl, sym, ap, _∙_}
+use mathlib.Core.Path.{_≡_, sym, ap, _∙_}
 use mathlib.Core.HLevel.{isProp→PathP}
 use Prim.Native.Nat.{_^_, _<_}
 use native.Mathlib.Bridge.{le-prop}
-use native.Mathlib.Omega.{arith}
 use lib.IntN.{ℤ, pos, _+ℤ_, negℤ, +ℤ-idl, +ℤ-comm, +ℤ-assoc, +ℤ-invr}
 use lib.Signed.{mag}
 use mir.Syntax.{w64}
-use mir.Val.{SFits}
 use Rattle.std.specs.shelf.Signed.{wrapped}
 use Rattle.std.proofs.shelf.Signed.{wrapped-fits, wrapped-add-left, wrapped-add-right, wrapped-sub-right}
 use Rattle.tally.specs.Lawful.{Lawful}
@@ -35,10 +33,7 @@ fits z h = wrapped-fits w64 z (record { sfits = h })
 pub moneyOf-fits : (m : Money) → moneyOf (m .market) (m .contract) (m .overcost) (m .power) ≡ m
 moneyOf-fits m = money-same _ m (fits _ (m .«market_fits»)) (fits _ (m .«contract_fits»)) (fits _ (m .«overcost_fits»)) (fits _ (m .«power_fits»))
 
--- equal whole numbers make equal money
-moneyOf-same : {a b c d a′ b′ c′ d′ : ℤ} → a ≡ a′ → b ≡ b′ → c ≡ c′ → d ≡ d′ → moneyOf a b c d ≡ moneyOf a′ b′ c′ d′
-moneyOf-same p q r s = λ i. moneyOf (p i) (q i) (r i) (s i)
-
+-- to wrap two numbers before they are added changes nothing
 wrapped-add : (a b : ℤ) → wrapped w64 (wrapped w64 a +ℤ wrapped w64 b) ≡ wrapped w64 (a +ℤ b)
 wrapped-add a b = wrapped-add-left w64 a (wrapped w64 b) ∙ wrapped-add-right w64 a b
 

@@ -1,13 +1,11 @@
 -- What joins of peaks come to. Assumes nothing.
-use mathlib.Core.Path.{_≡_, refl, sym, ap, _∙_}
+use mathlib.Core.Path.{_≡_}
 use mathlib.Core.HLevel.{isProp→PathP}
-use mathlib.Core.Bool.{cond}
-use Prim.Native.Nat.{ℕ}
 use native.Mathlib.Nat.{ℕ-set}
 use native.Mathlib.Omega.{arith}
 use Rattle.std.proofs.shelf.Ways.{tells}
 use Rattle.tally.specs.Lawful.{Lawful}
-use Rattle.tally.specs.Peak.{noPeak, peakOf, peakJoined}
+use Rattle.tally.specs.Peak.{noPeak, peakJoined}
 use Rattle.tally.specs.declared.peak.Peak.{Peak}
 
 -- two of equal numbers are equal

@@ -1,7 +1,6 @@
 -- The peak of an hour and of several. Assumes nothing.
-use mathlib.Core.Path.{_≡_, refl}
-use mathlib.Core.Bool.{Bool, true, false, cond, _&&_, _||_}
-use Prim.Native.Nat.{ℕ, suc, zero}
+use mathlib.Core.Bool.{Bool, cond, _&&_, _||_}
+use Prim.Native.Nat.{ℕ}
 use lib.Dec.{eqb, ltb}
 use Rattle.std.proofs.shelf.Tests.{cond-true, eq-eqb}
 use Rattle.tally.specs.declared.peak.Peak.{Peak}

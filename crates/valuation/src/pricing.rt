@@ -20,6 +20,27 @@ fn to_points(units: u64, per_point: u64) -> u64
     (units + per_point / 2) / per_point
 }
 
+/// The amount before rounding, in ten-millionths of a point.
+fn exact_amount(energy: u32, factor: u32, price: u32) -> u64
+    requires energy_limit { ⌜ energy ≤ most-energy ⌝ }
+    requires factor_limit { ⌜ factor ≤ most-factor ⌝ }
+    requires price_limit { ⌜ price ≤ most-price ⌝ }
+    ensures value { λ r. ⌜ r ≡ energy * factor * price ⌝ }
+    ensures bound { λ r. ⌜ r ≤ most-energy * most-factor * most-price ⌝ }
+{
+    u64::from(energy) * u64::from(factor) * u64::from(price)
+}
+
+/// The cost amount before rounding, in hundredths of a point.
+fn exact_cost(energy: u32, cost: u32) -> u64
+    requires energy_limit { ⌜ energy ≤ most-energy ⌝ }
+    requires cost_limit { ⌜ cost ≤ most-price ⌝ }
+    ensures value { λ r. ⌜ r ≡ energy * cost ⌝ }
+    ensures bound { λ r. ⌜ r ≤ most-energy * most-price ⌝ }
+{
+    u64::from(energy) * u64::from(cost)
+}
+
 /// The amount of `energy` kWh at a node factor and a price, in points.
 pub fn amount(energy: u32, factor: u32, price: u32) -> u64
     requires energy_limit { ⌜ energy ≤ most-energy ⌝ }
@@ -29,7 +50,7 @@ pub fn amount(energy: u32, factor: u32, price: u32) -> u64
     ensures nearest { λ r. ⌜ NearestUp (energy * factor * price) 10000000 r ⌝ }
     ensures bound { λ r. ⌜ r ≤ most-amount ⌝ }
 {
-    to_points(u64::from(energy) * u64::from(factor) * u64::from(price), AMOUNT_UNITS)
+    to_points(exact_amount(energy, factor, price), AMOUNT_UNITS)
 }
 
 /// The cost amount of `energy` kWh at a cost, in points.
@@ -40,5 +61,5 @@ pub fn cost_amount(energy: u32, cost: u32) -> u64
     ensures nearest { λ r. ⌜ NearestUp (energy * cost) 100 r ⌝ }
     ensures bound { λ r. ⌜ r ≤ most-cost-amount ⌝ }
 {
-    to_points(u64::from(energy) * u64::from(cost), COST_UNITS)
+    to_points(exact_cost(energy, cost), COST_UNITS)
 }

@@ -8,8 +8,8 @@ use Rattle.tally.proofs.folds.fold.Needs as need
 
 pub loop-item-again : need.loop-item-again
 loop-item-again g c =
-    let joined = rw (c .loop-item .inv .1) at (c .join-sum .ensures) in
-    (omega arith, joined ∙ total-more (g .T·Tally·met .lawful) (c .args .items .now) (c .loop-item .item-index) _ (c .loop-item-test .taken) (search needs))
+    let more = total-more (g .T·Tally·met .lawful) (c .args .items .now) (c .loop-item .item-index) (c .item-item .result) (c .loop-item-test .taken) (search needs) in
+    (omega arith, cc (more, c .loop-item .inv .1, c .join-sum .ensures))
 
 pub returns : need.returns
 returns g c =

@@ -1,25 +1,17 @@
--- What is added up stays within the points, and what is taken off again is within what was added.
-use Prim.Native.Nat.{_+_, _*_, _/_, _%_, _<_, _≤_}
+-- The quotient's part and the remainder's part together stay within the points.
 use native.Mathlib.Omega.{arith}
-use mathlib.Core.Path.{refl}
-use Rattle.valuation.proofs.Sharing.{partAt-within, share-grows, partAt-le}
+use Prim.Native.Nat.{_%_}
+use Rattle.valuation.proofs.Sharing.{partAt-within, share-grows}
 use Rattle.valuation.proofs.split.part.Needs as need
 
-some : (c : need.Else-total-eq0) → 0 < c .args .total
-some c = omega arith
-
-within : (c : need.Else-total-eq0) →
-    c .args .points / c .args .total * c .args .weight + c .args .points % c .args .total * (c .args .before + c .args .weight) / c .args .total ≤ c .args .points
-within c = partAt-within _ _ (some c) _ _ (c .pre .within)
-
 pub mul-result : need.mul-result
-mul-result c = omega (arith, within c)
+mul-result c = omega (arith, partAt-within (c .args .points) (c .args .total) (omega arith) (c .args .before) (c .args .weight) (c .pre .within))
 
-pub add-result-2 : need.add-result-2
-add-result-2 c = omega (arith, within c)
-
-pub sub-result : need.sub-result
-sub-result c = omega (arith, share-grows (c .args .points) (c .args .total) (some c) (c .args .points % c .args .total) (c .args .before) (c .args .weight))
+pub add-result : need.add-result
+add-result c = omega (arith, partAt-within (c .args .points) (c .args .total) (omega arith) (c .args .before) (c .args .weight) (c .pre .within))
 
 pub returns : need.returns
-returns c = record { value = refl; bound = partAt-le _ _ _ _ (c .pre .within) }
+returns c = record {
+  value = omega (arith, share-grows (c .args .total) (omega arith) (c .args .points % c .args .total) (c .args .before) (c .args .weight));
+  bound = omega (arith, partAt-within (c .args .points) (c .args .total) (omega arith) (c .args .before) (c .args .weight) (c .pre .within));
+}

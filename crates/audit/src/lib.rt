@@ -1,0 +1,1 @@
+//! The audit of a list of calls.
