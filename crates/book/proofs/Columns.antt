@@ -4,7 +4,8 @@ use mathlib.Core.Bool.{Bool, true, false, cond, _&&_}
 use mathlib.Core.List.{List}
 use mathlib.Core.Logic.{_⊎_, inl, inr}
 use mathlib.Core.Path.{_≡_, refl, sym, ap, subst, _∙_}
-use native.Mathlib.Nat.{mul-comm}
+use native.Mathlib.Nat.{mul-comm, add-mul, mul-le-mul-right}
+use native.Mathlib.Numerals.{add-one}
 use native.Mathlib.Omega.{arith}
 use lib.Dec.{eqb, ltb}
 use lib.ListN.{length, getD, set}
@@ -20,6 +21,14 @@ use Rattle.book.specs.Memory.{Holding, noHolding, holdingJoined, holdingUndone
 -- an agent's entry of an hour lies within the entries of all
 pub place-within : (hours hour n i : ℕ) → hour < hours → i < n → entryPlace hours i hour < n * hours
 place-within hours hour n i within below = omega (arith, mul-add-lt i hours hour n below within, mul-comm hours n)
+
+-- and so does its whole month
+pub month-within : (hours n i : ℕ) → i < n → i * hours + hours ≤ n * hours
+month-within hours n i below = omega (arith, mul-le-mul-right hours below, add-mul i 1 hours, ap (λ k. k * hours) (add-one i))
+
+-- and each day of it
+pub day-within : (days day n i : ℕ) → day < days → i < n → i * (24 * days) + 24 * day + 24 ≤ n * (24 * days)
+day-within days day n i inside below = omega (arith, month-within (24 * days) n i below)
 
 module _ (hours hour : ℕ) (within : hour < hours) (fresh before : List Holding) where
   -- the agents before i have their new entry

@@ -4,7 +4,7 @@ use mathlib.Core.Bool.{Bool, cond, not, _||_, _&&_}
 use mathlib.Core.List.{List, [], _∷_, map}
 use lib.Dec.{eqb, leb, ltb}
 use lib.IntN.{ℤ, pos, _+ℤ_}
-use lib.ListN.{length, getD, set, replicate}
+use lib.ListN.{length, getD, set, take, drop, replicate}
 use mir.Syntax.{w64}
 use Rattle.std.specs.declared.option.Option.{Option}
 use Rattle.std.specs.declared.option.Option.the-variants.{Some, None}
@@ -124,21 +124,22 @@ withdrawn f hour m = outcome (withdrawFault f hour m) tt m (rewritten (hoursOf (
 
 -- ---- statements
 
--- the peak of an agent's hours
-abbrev pub peakIn : (hours i : ℕ) → List Holding → Peak
-peakIn hours i entries =
-    total noPeak peakJoined (map (λ hour. peakOf (getD entries (entryPlace hours i hour) noHolding .second .withdrawn) hour) (counting 0 hours))
+-- the peak of hours whose entries are these
+abbrev pub peakOver : (hours : ℕ) → (ℕ → Holding) → Peak
+peakOver hours entry = total noPeak peakJoined (map (λ hour. peakOf (entry hour .second .withdrawn) hour) (counting 0 hours))
 
--- the statement that an account and its entries give the agent at place i
+-- the statement that an account and the month's peak give: the lines, their sum, the energies and the peak
+abbrev pub statementOf : Holding → Peak → Statement
+statementOf account peak = record {
+  lines = account .first;
+  balance = wrapped w64 (account .first .market +ℤ account .first .contract +ℤ account .first .overcost +ℤ account .first .power);
+  energy = account .second;
+  peak = peak;
+}
+
+-- the statement of the agent at place i
 abbrev pub statementIn : (hours i : ℕ) → Memory → Statement
-statementIn hours i m =
-    let account = getD (m .accounts) i noHolding in
-    record {
-      lines = account .first;
-      balance = wrapped w64 (account .first .market +ℤ account .first .contract +ℤ account .first .overcost +ℤ account .first .power);
-      energy = account .second;
-      peak = peakIn hours i (m .entries);
-    }
+statementIn hours i m = statementOf (getD (m .accounts) i noHolding) (peakOver hours (λ hour. getD (m .entries) (entryPlace hours i hour) noHolding))
 
 -- the faults of a statement: at last, that the agent is not in the book
 abbrev pub statementFault : MonthFigures → (agent : ℕ) → Memory → Option BookFault
@@ -147,3 +148,22 @@ statementFault f agent m =
 
 abbrev pub stated : MonthFigures → (agent : ℕ) → Memory → Result Statement BookFault
 stated f agent m = answerOf (statementIn (hoursOf (f .days)) (agent - 1) m) (statementFault f agent m)
+
+-- ---- a day
+
+-- the entries of an agent's day, the twenty-four from its first hour on; days are counted from 0
+abbrev pub dayOf : (hours i day : ℕ) → List Holding → List Holding
+dayOf hours i day entries = take 24 (drop (i * hours + 24 * day) entries)
+
+-- all of them together
+abbrev pub daySum : (hours i day : ℕ) → List Holding → Holding
+daySum hours i day entries = total noHolding holdingJoined (dayOf hours i day entries)
+
+-- the faults of a day: at last, that the agent or the day, both from 1, is not in the book
+abbrev pub dayFault : MonthFigures → (agent day : ℕ) → Memory → Option BookFault
+dayFault f agent day m =
+    firstMet (sizeFault (f .agents) (hoursOf (f .days)) m ∷ storedFault m
+    ∷ metIf ((eqb agent 0 || ltb (f .agents) agent) || (eqb day 0 || ltb (f .days) day)) OutsideBook ∷ [])
+
+abbrev pub dayStated : MonthFigures → (agent day : ℕ) → Memory → Result Holding BookFault
+dayStated f agent day m = answerOf (daySum (hoursOf (f .days)) (agent - 1) (day - 1) (m .entries)) (dayFault f agent day m)

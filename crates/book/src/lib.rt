@@ -13,6 +13,7 @@ mod posting;
 mod postings;
 mod rewrites;
 mod statements;
+mod views;
 
 pub use agents::Agent;
 pub use agents::Role;
@@ -28,3 +29,5 @@ pub use opening::open;
 pub use posting::post;
 pub use posting::withdraw;
 pub use statements::Statement;
+pub use views::day_total;
+pub use views::provisional;

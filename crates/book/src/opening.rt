@@ -1,9 +1,8 @@
 //! Opening a month.
 ghost use mathlib.Core.Path.{_≡_};
 ghost use lib.ListN.{length, replicate};
-ghost use Rattle.std.specs.declared.option.Option.the-variants.{None};
 ghost use Rattle.book.specs.Calls.{outcomeOf, opened};
-ghost use Rattle.book.specs.Memory.{memoryOf, noHolding};
+ghost use Rattle.book.specs.Memory.{memoryOf};
 ghost use Rattle.book.specs.Months.{openedAs, monthFigures};
 use crate::agents::Agent;
 use crate::faults::BookFault;
@@ -19,21 +18,12 @@ use tally::Pair;
 use tally::PairTally;
 use tally::Tally;
 
-/// Empties every account or entry.
-fn empty_holdings(holdings: &mut [Entry])
-    ensures { λ _. ⌜ now (holdings .exit) ≡ replicate (length (now (holdings .entry))) noHolding ⌝ }
+/// Puts the same value into every place.
+fn fill_all<T: Copy>(places: &mut [T], value: T)
+    ensures { λ _. ⌜ now (places .exit) ≡ replicate (length (now (places .entry))) value ⌝ }
 {
-    for holding in holdings.iter_mut() {
-        *holding = Pair::neutral();
-    }
-}
-
-/// Empties every contract place.
-fn empty_contracts(contracts: &mut [Option<Contract>])
-    ensures { λ _. ⌜ now (contracts .exit) ≡ replicate (length (now (contracts .entry))) None ⌝ }
-{
-    for contract in contracts.iter_mut() {
-        *contract = None;
+    for place in places.iter_mut() {
+        *place = value;
     }
 }
 
@@ -59,9 +49,10 @@ pub fn open(
     if weekday > 6 || !agents_fit(agents) {
         return Err(BookFault::OutsideBook);
     }
-    empty_holdings(accounts);
-    empty_contracts(contracts);
-    marks.fill(0);
-    empty_holdings(entries);
+    let nothing: Entry = Pair::neutral();
+    fill_all(accounts, nothing);
+    fill_all(contracts, None);
+    fill_all(marks, 0);
+    fill_all(entries, nothing);
     Ok(OpenMonth::new(count, days, weekday))
 }
