@@ -1,10 +1,10 @@
 //! The agents of a book.
 
-pub mod roles;
+pub(crate) mod roles;
 
 /// What an agent is in the market.
 #[derive(Clone, Copy, PartialEq, Eq, Debug)]
-pub enum Role {
+pub(crate) enum Role {
     Generator,
     Distributor,
     Consumer,

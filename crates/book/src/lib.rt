@@ -16,12 +16,10 @@ mod statements;
 mod views;
 
 pub use agents::Agent;
-pub use agents::Role;
 pub use faults::BookFault;
 pub use faults::LineFault;
 pub use holdings::Account;
 pub use holdings::Entry;
-pub use lines::Class;
 pub use lines::Line;
 pub use months::MonthFigures;
 pub use months::OpenMonth;

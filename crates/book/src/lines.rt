@@ -1,10 +1,10 @@
 //! The lines of a posting, one for each agent.
 
-pub mod rules;
+pub(crate) mod rules;
 
 /// How an agent's energy of an hour came about.
 #[derive(Clone, Copy, PartialEq, Eq, Debug)]
-pub enum Class {
+pub(crate) enum Class {
     Normal,
     Obligated,
     Forced,

@@ -3,7 +3,7 @@ ghost use mathlib.Core.Path.{_≡_};
 ghost use Prim.Native.Nat.{_*_, _≤_};
 ghost use lib.ListN.{length, getD};
 ghost use Rattle.book.specs.Calls.{entriesWith, accountsWith};
-ghost use Rattle.book.specs.Memory.{noHolding};
+ghost use Rattle.book.specs.Memory.{noHolding, holdingJoined, holdingUndone};
 ghost use Rattle.book.specs.Months.{hoursOf};
 use crate::holdings::Account;
 use crate::holdings::Entry;
@@ -16,6 +16,15 @@ use tally::PairReversible;
 use tally::PairTally;
 use tally::update;
 
+/// Gives an entry its new value: its account loses the old one and gains the new.
+fn replace_entry(account: &mut Account, entry: &mut Entry, new: Entry)
+    ensures account { λ _. ⌜ now (account .exit) ≡ holdingJoined (holdingJoined (now (account .entry)) (holdingUndone (now (entry .entry)))) new ⌝ }
+    ensures entry { λ _. ⌜ now (entry .exit) ≡ new ⌝ }
+{
+    *account = update(*account, *entry, new);
+    *entry = new;
+}
+
 /// Gives the hour's entry of each agent its new value.
 pub(crate) fn replace_hour(stamp: HourStamp, fresh: &[Entry], accounts: &mut [Account], entries: &mut [Entry])
     requires few { ⌜ length (now fresh) ≤ 64 ⌝ }
@@ -26,8 +35,6 @@ pub(crate) fn replace_hour(stamp: HourStamp, fresh: &[Entry], accounts: &mut [Ac
 {
     for (i, new) in fresh.iter().enumerate() {
         let at = stamp.place(i as u32);
-        let old = entries[at];
-        accounts[i] = update(accounts[i], old, *new);
-        entries[at] = *new;
+        replace_entry(&mut accounts[i], &mut entries[at], *new);
     }
 }

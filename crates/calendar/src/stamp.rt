@@ -42,6 +42,6 @@ impl HourStamp {
     pub fn place(&self, index: u32) -> usize
         ensures { λ r. ⌜ r ≡ index * (24 * now (self .entry) .days) + now (self .entry) .hour ⌝ }
     {
-        index as usize * (24 * self.days as usize) + self.hour as usize
+        index as usize * self.month_hours() as usize + self.hour() as usize
     }
 }

@@ -12,14 +12,14 @@ const MOST_POWER: u32 = 1_000_000;
 
 impl Role {
     /// Whether it may be obligated or forced to run, and is paid for power.
-    pub fn is_generator(self) -> bool
+    pub(crate) fn is_generator(self) -> bool
         ensures { λ r. ⌜ r ≡ generates self ⌝ }
     {
         matches!(self, Role::Generator)
     }
 
     /// Whether it carries a share of what the pool pays.
-    pub fn is_carrier(self) -> bool
+    pub(crate) fn is_carrier(self) -> bool
         ensures { λ r. ⌜ r ≡ carries self ⌝ }
     {
         matches!(self, Role::Distributor | Role::Consumer)
@@ -28,7 +28,7 @@ impl Role {
 
 impl Agent {
     /// The role that its number names, if any.
-    pub fn known_role(&self) -> Option<Role>
+    pub(crate) fn known_role(&self) -> Option<Role>
         ensures { λ r. ⌜ r ≡ roleOf (now (self .entry) .role) ⌝ }
     {
         match self.role {
@@ -40,7 +40,7 @@ impl Agent {
     }
 
     /// Whether its figures are within their limits.
-    pub fn is_within_limits(&self) -> bool
+    pub(crate) fn is_within_limits(&self) -> bool
         ensures { λ r. ⌜ r ≡ agentFits (now (self .entry)) ⌝ }
     {
         match self.known_role() {

@@ -11,7 +11,7 @@ use valuation::MOST_PRICE;
 
 impl Line {
     /// The class that its number names, if any.
-    pub fn known_class(&self) -> Option<Class>
+    pub(crate) fn known_class(&self) -> Option<Class>
         ensures { λ r. ⌜ r ≡ classOf (now (self .entry) .class) ⌝ }
     {
         match self.class {
@@ -23,7 +23,7 @@ impl Line {
     }
 
     /// Whether energies, factor and cost are within their limits.
-    pub fn is_within_limits(&self) -> bool
+    pub(crate) fn is_within_limits(&self) -> bool
         ensures { λ r. ⌜ r ≡ lineWithin (now (self .entry)) ⌝ }
     {
         self.injected <= MOST_ENERGY
@@ -45,7 +45,7 @@ impl Line {
     }
 
     /// Whether it keeps the rule of its class, as the line of an agent with this role in a book of `count` agents.
-    pub fn keeps_its_class(&self, count: u32, role: Option<Role>) -> bool
+    pub(crate) fn keeps_its_class(&self, count: u32, role: Option<Role>) -> bool
         ensures { λ r. ⌜ r ≡ lineKept count role (now (self .entry)) ⌝ }
     {
         match self.known_class() {

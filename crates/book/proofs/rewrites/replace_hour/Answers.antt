@@ -15,12 +15,6 @@ index-entries-at c =
     omega (arith, c .place-at .ensures, c .pre .entries-long, c .loop-i .kept .entries,
     place-within (hoursOf (stamp .days)) (stamp .hour) (length (c .args .fresh .now)) (c .loop-i .i) (stamp .within) (c .loop-i-test .taken))
 
-pub index-entries-at-in-loop-i : need.index-entries-at-in-loop-i
-index-entries-at-in-loop-i c =
-    let stamp = c .args .stamp in
-    omega (arith, c .place-at .ensures, c .pre .entries-long, c .loop-i .kept .entries,
-    place-within (hoursOf (stamp .days)) (stamp .hour) (length (c .args .fresh .now)) (c .loop-i .i) (stamp .within) (c .loop-i-test .taken))
-
 pub loop-i-again : need.loop-i-again
 loop-i-again c =
     let stamp = c .args .stamp in
@@ -41,10 +35,10 @@ loop-i-again c =
     let account-is : c .index-accounts-i .result ≡ getD old i noHolding =
           getD-read (c .loop-i .accounts) i (c .index-accounts-i .result) (omega (arith, c .loop-i .kept .accounts)) (c .index-accounts-i .is) noHolding
           ∙ settled-old hours hour (stamp .within) fresh before old i (c .loop-i .accounts) here (c .loop-i .inv .1) in
-    let updated : c .update .result ≡ accountAfter hours hour (stamp .within) fresh before old i =
-          c .update .ensures .value
-          ∙ (λ k. holdingJoined (holdingJoined (account-is k) (holdingUndone (old-is k))) (new-is k)) in
-    (subst (λ (x : ℕ × Holding). Rewritten hours hour (stamp .within) fresh before (i + 1) (set (c .loop-i .entries) (x .0) (x .1))) (λ k. (sym (c .place-at .ensures) k, sym new-is k))
+    let updated : c .replace-entry .last .account ≡ accountAfter hours hour (stamp .within) fresh before old i =
+          c .replace-entry .ensures .account
+          ∙ (λ k. holdingJoined (holdingJoined ((sym (c .index-accounts-i .is) ∙ account-is) k) (holdingUndone ((sym (c .index-entries-at .is) ∙ old-is) k))) (new-is k)) in
+    (subst (λ (x : ℕ × Holding). Rewritten hours hour (stamp .within) fresh before (i + 1) (set (c .loop-i .entries) (x .0) (x .1))) (λ k. (sym (c .place-at .ensures) k, sym (c .replace-entry .ensures .entry ∙ new-is) k))
       (rewritten-more hours hour (stamp .within) fresh before i (c .loop-i .entries) (c .loop-i .kept .entries) at (c .loop-i .inv .0)),
     subst (λ x. Settled hours hour (stamp .within) fresh before old (i + 1) (set (c .loop-i .accounts) i x)) (sym updated)
       (settled-more hours hour (stamp .within) fresh before old i (c .loop-i .accounts) (c .loop-i .kept .accounts) here (c .loop-i .inv .1)))

@@ -1,0 +1,5 @@
+//! Trials of the book on memory of a wrong size or with damaged figures: what no journal can reach.
+pub mod desk;
+
+#[cfg(test)]
+mod tests;
