@@ -21,16 +21,16 @@ use tally::Tally;
 
 /// How much of the memory is lent to the call.
 #[derive(Clone, Copy)]
-pub struct Sizes {
-    pub agents: usize,
-    pub accounts: usize,
-    pub contracts: usize,
-    pub marks: usize,
-    pub entries: usize,
+pub(crate) struct Sizes {
+    pub(crate) agents: usize,
+    pub(crate) accounts: usize,
+    pub(crate) contracts: usize,
+    pub(crate) marks: usize,
+    pub(crate) entries: usize,
 }
 
 /// The sizes that a book of two agents and one day has.
-pub const RIGHT: Sizes = Sizes {
+pub(crate) const RIGHT: Sizes = Sizes {
     agents: 2,
     accounts: 2,
     contracts: 64,
@@ -40,7 +40,7 @@ pub const RIGHT: Sizes = Sizes {
 
 /// A stored figure, changed between the opening and the call.
 #[derive(Clone, Copy)]
-pub enum Damage {
+pub(crate) enum Damage {
     None,
     SecondAgent(Agent),
     LastMark(u8),
@@ -50,7 +50,7 @@ pub enum Damage {
 
 /// The call that is tried.
 #[derive(Clone, Copy)]
-pub enum Trial {
+pub(crate) enum Trial {
     Post,
     Withdraw,
     Statement,
@@ -59,9 +59,9 @@ pub enum Trial {
 
 /// A refusal's number and place; 0 and 0 where the call is accepted.
 #[derive(Clone, Copy, PartialEq, Eq, Debug)]
-pub struct Told {
-    pub number: u32,
-    pub place: u32,
+pub(crate) struct Told {
+    pub(crate) number: u32,
+    pub(crate) place: u32,
 }
 
 fn told_of<T: Drop>(answer: Result<T, BookFault>) -> Told {
@@ -142,7 +142,7 @@ fn call(
 }
 
 /// Opens a book, damages its memory, lends so much of it to a call, and tells how the call was answered.
-pub fn tried(sizes: Sizes, damage: Damage, trial: Trial) -> Told {
+pub(crate) fn tried(sizes: Sizes, damage: Damage, trial: Trial) -> Told {
     let nothing: Entry = Pair::neutral();
     let mut agents = [GENERATOR, DISTRIBUTOR, DISTRIBUTOR];
     let mut accounts = [nothing; 3];
