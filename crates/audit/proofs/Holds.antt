@@ -8,11 +8,17 @@ use Rattle.std.specs.Options.{isSome}
 use Rattle.tally.specs.Money.{moneyOf}
 use Rattle.tally.specs.Energy.{energyOf}
 use Rattle.tally.specs.Pair.{pairOf}
+use Rattle.book.specs.declared.months.MonthFigures.{MonthFigures}
 use Rattle.book.specs.Calls.{entryOf, entryPlace}
 use Rattle.book.specs.Memory.{Memory, Holding, noHolding}
+use Rattle.book.specs.Months.{monthFigures}
 use Rattle.audit.specs.Requests.{Opening, countIn, hoursIn, Posting}
 use Rattle.audit.specs.Standing.{Standing}
 use Rattle.audit.specs.Worked.{figuresAt, marketOf, contractOf, overcostOf, powerOf, injectedOf, withdrawnOf}
+
+-- the figures of the month that an opening opens
+abbrev pub figuresIn : Opening → MonthFigures
+figuresIn o = monthFigures (countIn o) (o .days) (o .weekday)
 
 -- the mark of an hour: 1 where a posting stands
 abbrev pub markFor : Option Posting → ℕ

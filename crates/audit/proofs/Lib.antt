@@ -1,2 +1,17 @@
 pub mod Sound
+pub mod Checked
+pub mod Bounds
+pub mod Balance
+pub mod Order
 pub mod Holds
+pub mod Columns
+pub mod Accounts
+pub mod Keeps
+pub mod Fits
+pub mod Statements
+pub mod Steps
+pub mod Replayed
+pub mod Told
+pub mod Added
+pub mod Run
+pub mod Audited

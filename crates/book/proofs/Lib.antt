@@ -5,3 +5,4 @@ pub mod Sharing
 pub mod Bounds
 pub mod Columns
 pub mod Tables
+pub mod Together
