@@ -1,3 +1,5 @@
+pub mod week;
+
 ghost use Prim.Native.Nat.{_*_, _<_, _≤_, _+_, ℕ};
 ghost use mathlib.Core.Path.{_≡_};
 ghost use Rattle.std.specs.Options.{Cases};
@@ -42,6 +44,6 @@ impl HourStamp {
     pub fn place(&self, index: u32) -> usize
         ensures { λ r. ⌜ r ≡ index * (24 * now (self .entry) .days) + now (self .entry) .hour ⌝ }
     {
-        index as usize * self.month_hours() as usize + self.hour() as usize
+        index as usize * (24 * self.days as usize) + self.hour as usize
     }
 }

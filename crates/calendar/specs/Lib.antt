@@ -1,0 +1,2 @@
+pub mod Weekdays
+pub mod Bands

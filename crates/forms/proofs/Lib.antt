@@ -1,0 +1,4 @@
+pub mod MarketLegs
+pub mod Quantities
+pub mod Kept
+pub mod Hours
