@@ -54,8 +54,9 @@ module _ (o : Opening) (hour : ℕ) where
   -- what is written at an hour is what is left there
   left-here : (s : Standing) (h : ℕ) (p : Option Posting) → cond (eqb h hour) (residueFrom p) (residueFrom (s .posted hour)) ≡ residueFrom (standingWith h p s .posted hour)
   left-here s h p = elim (cases-eq h hour) [
-      inl here ↦ (λ t. cond (eq-eqb h hour here t) (residueFrom p) (residueFrom (s .posted hour))) ∙ (λ t. residueFrom (cond (sym (eq-eqb hour h (sym here)) t) p (s .posted hour)))
-    | inr apart ↦ (λ t. cond (ne-eqb h hour apart t) (residueFrom p) (residueFrom (s .posted hour))) ∙ (λ t. residueFrom (cond (sym (ne-eqb hour h (λ e. apart (sym e))) t) p (s .posted hour))) ]
+    | inl here ↦ (λ t. cond (eq-eqb h hour here t) (residueFrom p) (residueFrom (s .posted hour))) ∙ (λ t. residueFrom (cond (sym (eq-eqb hour h (sym here)) t) p (s .posted hour)))
+    | inr apart ↦ (λ t. cond (ne-eqb h hour apart t) (residueFrom p) (residueFrom (s .posted hour))) ∙ (λ t. residueFrom (cond (sym (ne-eqb hour h (λ e. apart (sym e))) t) p (s .posted hour)))
+  ]
 
   -- an answer tells what is left as the residue of an hour
   residue-next : (s : Standing) (r : Request) → cond (isAccepted (reply o s r)) (residueLeft hour (residueFrom (s .posted hour)) r) (residueFrom (s .posted hour)) ≡ residueFrom (next o s r .posted hour)

@@ -52,9 +52,35 @@ pub fn audit(
     if answers.len() != calls.len() || statements.len() != agents.len() {
         return Err(BookFault::WrongSize);
     }
-    let month = open(count, days, weekday, agents, accounts, contracts, marks, entries)?;
-    replay(&month, calls, agents, accounts, contracts, marks, entries, answers);
-    fill_statements(&month, agents, accounts, contracts, marks, entries, statements);
+    let month = open(
+        count,
+        days,
+        weekday,
+        agents,
+        accounts,
+        contracts,
+        marks,
+        entries,
+    )?;
+    replay(
+        &month,
+        calls,
+        agents,
+        accounts,
+        contracts,
+        marks,
+        entries,
+        answers,
+    );
+    fill_statements(
+        &month,
+        agents,
+        accounts,
+        contracts,
+        marks,
+        entries,
+        statements,
+    );
     let figures = month.retire();
     Ok(Totals {
         balances: balances_together(statements),

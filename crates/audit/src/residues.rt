@@ -37,7 +37,10 @@ fn residue_left(call: &Call, hour: u32, before: i64) -> i64
     ensures bound { λ r. ⌜ natAbs r ≤ 7680000000000 ⌝ }
 {
     match call {
-        Call::Post(posting) if posting.hour == hour => posting_residue(posting.price, &posting.lines),
+        Call::Post(posting) if posting.hour == hour => posting_residue(
+            posting.price,
+            &posting.lines,
+        ),
         Call::Withdraw(at) if *at == hour => 0,
         Call::Post(_) | Call::Withdraw(_) | Call::Provisional(_) => before,
     }

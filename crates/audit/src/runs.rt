@@ -50,9 +50,35 @@ pub fn answer(
     ensures { λ r. ⌜ heardOf r (memoryOf (now (agents .entry)) (now (accounts .exit)) (now (contracts .entry)) (now (marks .exit)) (now (entries .exit))) ≡ heard (figuresOf (now (month .entry))) (now (call .entry)) (memoryOf (now (agents .entry)) (now (accounts .entry)) (now (contracts .entry)) (now (marks .entry)) (now (entries .entry))) ⌝ }
 {
     match call {
-        Call::Post(posting) => told(post(month, posting.hour, posting.price, &posting.lines, agents, accounts, contracts, marks, entries)),
-        Call::Withdraw(hour) => told(withdraw(month, *hour, agents, accounts, contracts, marks, entries)),
-        Call::Provisional(agent) => stated(provisional(month, *agent, agents, accounts, contracts, marks, entries)),
+        Call::Post(posting) => told(post(
+            month,
+            posting.hour,
+            posting.price,
+            &posting.lines,
+            agents,
+            accounts,
+            contracts,
+            marks,
+            entries,
+        )),
+        Call::Withdraw(hour) => told(withdraw(
+            month,
+            *hour,
+            agents,
+            accounts,
+            contracts,
+            marks,
+            entries,
+        )),
+        Call::Provisional(agent) => stated(provisional(
+            month,
+            *agent,
+            agents,
+            accounts,
+            contracts,
+            marks,
+            entries,
+        )),
     }
 }
 

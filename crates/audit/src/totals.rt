@@ -35,7 +35,15 @@ pub(crate) fn fill_statements(
     ensures { λ _. ⌜ now (statements .exit) ≡ map (λ i. statementIn (hoursOf (figuresOf (now (month .entry)) .days)) i (memoryOf (now (agents .entry)) (now (accounts .entry)) (now (contracts .entry)) (now (marks .entry)) (now (entries .entry)))) (counting 0 (figuresOf (now (month .entry)) .agents)) ⌝ }
 {
     for agent in 0..month.figures().agents {
-        statements[agent as usize] = provisional(month, agent + 1, agents, accounts, contracts, marks, entries).unwrap();
+        statements[agent as usize] = provisional(
+            month,
+            agent + 1,
+            agents,
+            accounts,
+            contracts,
+            marks,
+            entries,
+        ).unwrap();
     }
 }
 

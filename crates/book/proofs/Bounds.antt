@@ -68,16 +68,19 @@ module _ (price : ℕ) (lines : List Line) (sane : Measured price lines) where
   pub obligated-le : obligatedSum price lines ≤ 5120000000000
   obligated-le =
       let each = sumTo-le (length lines) (λ j. obligatedOn price (lineAt lines j)) 80000000000
-            (λ j below. if-excess-le price (lineAt lines j) (line-within j below) (isObligated (classOf (lineAt lines j .class)))) in
+      (λ j below. if-excess-le price (lineAt lines j) (line-within j below) (isObligated (classOf (lineAt lines j .class)))) in
       omega (arith, sane .few-lines)
 
   pub caused-le : (i : ℕ) → causedSum price lines i ≤ 5120000000000
   caused-le i =
       let each = sumTo-le (length lines) (λ j. causedOn price i (lineAt lines j)) 80000000000
-            (λ j below. if-excess-le price (lineAt lines j) (line-within j below) (isForced (classOf (lineAt lines j .class)) && eqb (lineAt lines j .cause) (i + 1))) in
+      (λ j below. if-excess-le price (lineAt lines j) (line-within j below) (isForced (classOf (lineAt lines j .class)) && eqb (lineAt lines j .cause) (i + 1))) in
       omega (arith, sane .few-lines)
 
   pub carried-le : (agents : List Agent) (i : ℕ) → i < length lines → carriedBy agents price lines i ≤ 5120000000000
   carried-le agents i below =
-      omega (arith, obligated-le,
-      partOf-le (obligatedSum price lines) (weightsOf agents lines) i (omega (arith, length-map-counting (weightAt agents lines) 0 (length lines))))
+      omega (
+        arith,
+        obligated-le,
+        partOf-le (obligatedSum price lines) (weightsOf agents lines) i (omega (arith, length-map-counting (weightAt agents lines) 0 (length lines))),
+      )

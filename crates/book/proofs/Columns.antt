@@ -44,16 +44,17 @@ module _ (hours hour : ℕ) (within : hour < hours) (fresh before : List Holding
 
   -- another place is told of as before
   elsewhere : (i k : ℕ) → (k ≡ entryPlace hours i hour → ⊥) → (eqb (k % hours) hour && ltb (k / hours) i) ≡ (eqb (k % hours) hour && ltb (k / hours) (i + 1))
-  elsewhere i k other = elim (cases-eq (k % hours) hour)
-    [ inl same ↦
+  elsewhere i k other = elim (cases-eq (k % hours) hour) [
+    | inl same ↦
         let apart : k / hours ≡ i → ⊥ = λ here. other (sym (div-add-mod' k hours) ∙ ap (λ q. q * hours + k % hours) here ∙ ap (λ r. i * hours + r) same) in
         ap (λ b. eqb (k % hours) hour && b) (grind (arith, tells))
-    | inr off ↦ and-left _ _ (ne-eqb _ _ off) ∙ sym (and-left _ _ (ne-eqb _ _ off)) ]
+    | inr off ↦ and-left _ _ (ne-eqb _ _ off) ∙ sym (and-left _ _ (ne-eqb _ _ off))
+  ]
 
   pub rewritten-more : (i : ℕ) (entries : List Holding) → length entries ≡ length before → entryPlace hours i hour < length before →
       Rewritten i entries → Rewritten (i + 1) (set entries (entryPlace hours i hour) (getD fresh i noHolding))
-  rewritten-more i entries long at written k below = elim (cases-eq k (entryPlace hours i hour))
-    [ inl here ↦
+  rewritten-more i entries long at written k below = elim (cases-eq k (entryPlace hours i hour)) [
+    | inl here ↦
         let quotient : k / hours ≡ i = ap (λ n. n / hours) here ∙ div-mul-add i hours hour within in
         let remainder : k % hours ≡ hour = ap (λ n. n % hours) here ∙ mod-mul-add i hours hour within in
         ap (λ n. getD (set entries (entryPlace hours i hour) (getD fresh i noHolding)) n noHolding) here
@@ -63,7 +64,8 @@ module _ (hours hour : ℕ) (within : hour < hours) (fresh before : List Holding
     | inr other ↦
         getD-set-other entries (entryPlace hours i hour) k (getD fresh i noHolding) noHolding other
         ∙ written k below
-        ∙ ap (λ b. cond b (getD fresh (k / hours) noHolding) (getD before k noHolding)) (elsewhere i k other) ]
+        ∙ ap (λ b. cond b (getD fresh (k / hours) noHolding) (getD before k noHolding)) (elsewhere i k other)
+  ]
 
   -- an agent that is not yet at hand has its entry as it was
   pub rewritten-old : (i : ℕ) (entries : List Holding) → entryPlace hours i hour < length before → Rewritten i entries →
@@ -78,8 +80,8 @@ module _ (hours hour : ℕ) (within : hour < hours) (fresh before : List Holding
   rewritten-all n entries long size written =
       fill-by-all (λ k. cond (eqb (k % hours) hour) (getD fresh (k / hours) noHolding) (getD before k noHolding)) entries (length before) noHolding long
       (λ k below.
-        let row : k / hours < n = div-below k hours n (omega arith) (omega arith) in
-        written k below ∙ ap (λ b. cond b (getD fresh (k / hours) noHolding) (getD before k noHolding)) (grind (arith, tells)))
+      let row : k / hours < n = div-below k hours n (omega arith) (omega arith) in
+      written k below ∙ ap (λ b. cond b (getD fresh (k / hours) noHolding) (getD before k noHolding)) (grind (arith, tells)))
 
   -- the accounts of the agents before i have lost the old entry and gained the new
   abbrev pub accountAfter : List Holding → ℕ → Holding
@@ -93,8 +95,8 @@ module _ (hours hour : ℕ) (within : hour < hours) (fresh before : List Holding
 
   pub settled-more : (old : List Holding) (i : ℕ) (accounts : List Holding) → length accounts ≡ length old → i < length old → Settled old i accounts →
       Settled old (i + 1) (set accounts i (accountAfter old i))
-  settled-more old i accounts long at settled k below = elim (cases-eq k i)
-    [ inl here ↦
+  settled-more old i accounts long at settled k below = elim (cases-eq k i) [
+    | inl here ↦
         ap (λ n. getD (set accounts i (accountAfter old i)) n noHolding) here
         ∙ getD-set-same accounts i (accountAfter old i) noHolding (omega arith)
         ∙ ap (accountAfter old) (sym here)
@@ -102,7 +104,8 @@ module _ (hours hour : ℕ) (within : hour < hours) (fresh before : List Holding
     | inr other ↦
         getD-set-other accounts i k (accountAfter old i) noHolding other
         ∙ settled k below
-        ∙ ap (λ b. cond b (accountAfter old k) (getD old k noHolding)) (grind (arith, tells)) ]
+        ∙ ap (λ b. cond b (accountAfter old k) (getD old k noHolding)) (grind (arith, tells))
+  ]
 
   -- the account at hand is as it was
   pub settled-old : (old : List Holding) (i : ℕ) (accounts : List Holding) → i < length old → Settled old i accounts → getD accounts i noHolding ≡ getD old i noHolding
@@ -120,8 +123,8 @@ module _ (hours hour n : ℕ) (within : hour < hours) (new new′ : ℕ → Hold
   entriesWith-same before size =
       map-counting-same (length before) _ _
       (λ k below.
-        let row : k / hours < n = div-below k hours n (omega arith) (omega arith) in
-        ap (λ e. cond (eqb (k % hours) hour) e (getD before k noHolding)) (same (k / hours) row))
+      let row : k / hours < n = div-below k hours n (omega arith) (omega arith) in
+      ap (λ e. cond (eqb (k % hours) hour) e (getD before k noHolding)) (same (k / hours) row))
 
   pub accountsWith-same : (before old : List Holding) → length old ≡ n → accountsWith hours hour new before old ≡ accountsWith hours hour new′ before old
   accountsWith-same before old size =

@@ -26,5 +26,8 @@ weight-le (Some Consumer) l = omega arith
 -- and so all together
 pub weights-le : (agents : List Agent) (lines : List Line) → sum (weightsOf agents lines) ≤ withdrawnTogether lines
 weights-le agents lines =
-    omega (arith, sum-counting (weightAt agents lines) (length lines),
-    sumTo-mono (length lines) (weightAt agents lines) (λ i. lineAt lines i .withdrawn) (λ i within. weight-le (roleAt agents i) (lineAt lines i)))
+    omega (
+      arith,
+      sum-counting (weightAt agents lines) (length lines),
+      sumTo-mono (length lines) (weightAt agents lines) (λ i. lineAt lines i .withdrawn) (λ i within. weight-le (roleAt agents i) (lineAt lines i)),
+    )

@@ -43,14 +43,16 @@ sumToℤ-same (suc n) f g same = cc (sumToℤ-same n f g (λ k h. same k (omega 
 pub sumTo-change : (n : ℕ) (f g : ℕ → ℕ) (k : ℕ) → k < n → ((h : ℕ) → h < n → (h ≡ k → ⊥) → g h ≡ f h) → sumTo n g + f k ≡ sumTo n f + g k
 sumTo-change zero f g k within others = absurd (omega arith)
 sumTo-change (suc n) f g k within others = elim (cases-eq k n) [
-    inl here ↦ omega (arith, ap f here, ap g here, sumTo-same n g f (λ h below. others h (omega arith) (λ e. omega arith)))
-  | inr before ↦ omega (arith, others n (omega arith) (λ e. before (sym e)), sumTo-change n f g k (omega arith) (λ h below. others h (omega arith))) ]
+  | inl here ↦ omega (arith, ap f here, ap g here, sumTo-same n g f (λ h below. others h (omega arith) (λ e. omega arith)))
+  | inr before ↦ omega (arith, others n (omega arith) (λ e. before (sym e)), sumTo-change n f g k (omega arith) (λ h below. others h (omega arith)))
+]
 
 pub sumToℤ-change : (n : ℕ) (f g : ℕ → ℤ) (k : ℕ) → k < n → ((h : ℕ) → h < n → (h ≡ k → ⊥) → g h ≡ f h) → sumToℤ n g ≡ sumToℤ n f -ℤ f k +ℤ g k
 sumToℤ-change zero f g k within others = absurd (omega arith)
 sumToℤ-change (suc n) f g k within others = elim (cases-eq k n) [
-    inl here ↦ omega (arith, ints, ap f here, ap g here, sumToℤ-same n g f (λ h below. others h (omega arith) (λ e. omega arith)))
-  | inr before ↦ omega (arith, ints, others n (omega arith) (λ e. before (sym e)), sumToℤ-change n f g k (omega arith) (λ h below. others h (omega arith))) ]
+  | inl here ↦ omega (arith, ints, ap f here, ap g here, sumToℤ-same n g f (λ h below. others h (omega arith) (λ e. omega arith)))
+  | inr before ↦ omega (arith, ints, others n (omega arith) (λ e. before (sym e)), sumToℤ-change n f g k (omega arith) (λ h below. others h (omega arith)))
+]
 
 -- ---- zeros
 

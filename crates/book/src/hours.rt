@@ -34,7 +34,13 @@ fn excess_on(price: u32, line: &Line) -> u64
     ensures bound { λ r. ⌜ r ≤ 80000000000 ⌝ }
 {
     match line.known_class() {
-        Some(Class::Obligated | Class::Forced) => excess(price, line.gross, line.injected, line.factor, line.cost),
+        Some(Class::Obligated | Class::Forced) => excess(
+            price,
+            line.gross,
+            line.injected,
+            line.factor,
+            line.cost,
+        ),
         Some(Class::Normal) | None => 0,
     }
 }
@@ -177,7 +183,13 @@ fn entry(price: u32, line: &Line, caused: u64, carried: u64) -> Entry
 }
 
 /// Writes the entry of each agent to its place; the parts are scratch memory.
-pub(crate) fn fill_entries(agents: &[Agent], price: u32, lines: &[Line], parts: &mut [u64], fresh: &mut [Entry])
+pub(crate) fn fill_entries(
+    agents: &[Agent],
+    price: u32,
+    lines: &[Line],
+    parts: &mut [u64],
+    fresh: &mut [Entry],
+)
     requires measured { ⌜ Measured price (now lines) ⌝ }
     requires agents_long { ⌜ length (now agents) ≡ length (now lines) ⌝ }
     requires parts_long { ⌜ length (now parts) ≡ length (now lines) ⌝ }

@@ -98,7 +98,13 @@ fn all_withdrawn(accounts: &[Account]) -> u64
 }
 
 /// Whether all stored figures are within their limits.
-fn is_within_limits(agents: &[Agent], accounts: &[Account], contracts: &[Option<Contract>], marks: &[u8], entries: &[Entry]) -> bool
+fn is_within_limits(
+    agents: &[Agent],
+    accounts: &[Account],
+    contracts: &[Option<Contract>],
+    marks: &[u8],
+    entries: &[Entry],
+) -> bool
     requires few { ⌜ length (now accounts) ≤ 64 ⌝ }
     ensures { λ r. ⌜ r ≡ storedFits (memoryOf (now (agents .entry)) (now (accounts .entry)) (now (contracts .entry)) (now (marks .entry)) (now (entries .entry))) ⌝ }
 {
@@ -121,7 +127,15 @@ pub(crate) fn check_memory(
     ensures { λ r. ⌜ errPart r ≡ firstMet (sizeFault (now (month .entry) .agents) (hoursOf (now (month .entry) .days)) (memoryOf (now (agents .entry)) (now (accounts .entry)) (now (contracts .entry)) (now (marks .entry)) (now (entries .entry))) ∷ storedFault (memoryOf (now (agents .entry)) (now (accounts .entry)) (now (contracts .entry)) (now (marks .entry)) (now (entries .entry))) ∷ []) ⌝ }
 {
     let figures = month.figures();
-    if !is_sized(figures.agents, figures.days, agents, accounts, contracts, marks, entries) {
+    if !is_sized(
+        figures.agents,
+        figures.days,
+        agents,
+        accounts,
+        contracts,
+        marks,
+        entries,
+    ) {
         return Err(BookFault::WrongSize);
     }
     if !is_within_limits(agents, accounts, contracts, marks, entries) {

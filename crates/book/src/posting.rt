@@ -78,7 +78,15 @@ pub fn post(
     let count = lines.len();
     let nothing: Entry = Pair::neutral();
     let mut fresh = [nothing; 64];
-    write_posting(stamp, price, lines, agents, &mut fresh[0..count], accounts, entries);
+    write_posting(
+        stamp,
+        price,
+        lines,
+        agents,
+        &mut fresh[0..count],
+        accounts,
+        entries,
+    );
     marks[hour as usize] = POSTED;
     Ok(())
 }

@@ -90,7 +90,13 @@ fn check_together(lines: &[Line]) -> Result<(), LineFault>
 }
 
 /// The stamp of a posting's hour, or the first fault of its own figures.
-pub(crate) fn check_posting(month: &OpenMonth, hour: u32, price: u32, lines: &[Line], agents: &[Agent]) -> Result<HourStamp, LineFault>
+pub(crate) fn check_posting(
+    month: &OpenMonth,
+    hour: u32,
+    price: u32,
+    lines: &[Line],
+    agents: &[Agent],
+) -> Result<HourStamp, LineFault>
     requires { ⌜ length (now agents) ≡ now month .agents ⌝ }
     ensures fault { λ r. ⌜ errPart r ≡ lineFault (now (month .entry) .agents) (hoursOf (now (month .entry) .days)) (now (agents .entry)) hour price (now (lines .entry)) ⌝ }
     ensures stamp { λ r. ⌜ made r (λ s. (s .hour ≡ hour) × (s .days ≡ now (month .entry) .days)) ⌝ }

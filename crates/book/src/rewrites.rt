@@ -26,7 +26,12 @@ fn replace_entry(account: &mut Account, entry: &mut Entry, new: Entry)
 }
 
 /// Gives the hour's entry of each agent its new value.
-pub(crate) fn replace_hour(stamp: HourStamp, fresh: &[Entry], accounts: &mut [Account], entries: &mut [Entry])
+pub(crate) fn replace_hour(
+    stamp: HourStamp,
+    fresh: &[Entry],
+    accounts: &mut [Account],
+    entries: &mut [Entry],
+)
     requires few { ⌜ length (now fresh) ≤ 64 ⌝ }
     requires accounts_long { ⌜ length (now accounts) ≡ length (now fresh) ⌝ }
     requires entries_long { ⌜ length (now entries) ≡ length (now fresh) * hoursOf (stamp .days) ⌝ }

@@ -67,7 +67,11 @@ fn month_peak(entries: &[Entry], first: usize, hours: usize) -> Peak
 fn balance(lines: Money) -> i64
     ensures { λ r. ⌜ r ≡ wrapped w64 (lines .market +ℤ lines .contract +ℤ lines .overcost +ℤ lines .power) ⌝ }
 {
-    lines.market.wrapping_add(lines.contract).wrapping_add(lines.overcost).wrapping_add(lines.power)
+    lines
+        .market
+        .wrapping_add(lines.contract)
+        .wrapping_add(lines.overcost)
+        .wrapping_add(lines.power)
 }
 
 /// The statement of an account, with the peak of its month.

@@ -44,8 +44,15 @@ pub(crate) enum Damage {
     None,
     SecondAgent(Agent),
     LastMark(u8),
-    LastEntry { injected: u64, withdrawn: u64 },
-    Accounts { injected: u64, first: u64, second: u64 },
+    LastEntry {
+        injected: u64,
+        withdrawn: u64,
+    },
+    Accounts {
+        injected: u64,
+        first: u64,
+        second: u64,
+    },
 }
 
 /// The call that is tried.
@@ -66,7 +73,10 @@ pub(crate) struct Told {
 
 fn told_of<T: Drop>(answer: Result<T, BookFault>) -> Told {
     match answer {
-        Ok(_) => Told { number: 0, place: 0 },
+        Ok(_) => Told {
+            number: 0,
+            place: 0,
+        },
         Err(fault) => Told {
             number: fault.number(),
             place: fault.place(),
@@ -99,19 +109,29 @@ const LINE: Line = Line {
 fn energy_alone(injected: u64, withdrawn: u64) -> Entry {
     Pair {
         first: Money::neutral(),
-        second: Energy { injected, withdrawn },
+        second: Energy {
+            injected,
+            withdrawn,
+        },
     }
 }
 
 fn damage_accounts(accounts: &mut [Account; 3], damage: Damage) {
-    if let Damage::Accounts { injected, first, second } = damage {
+    if let Damage::Accounts {
+        injected,
+        first,
+        second,
+    } = damage {
         accounts[0] = energy_alone(injected, first);
         accounts[1] = energy_alone(0, second);
     }
 }
 
 fn damage_entries(entries: &mut [Entry; 49], damage: Damage) {
-    if let Damage::LastEntry { injected, withdrawn } = damage {
+    if let Damage::LastEntry {
+        injected,
+        withdrawn,
+    } = damage {
         entries[47] = energy_alone(injected, withdrawn);
     }
 }
@@ -134,9 +154,27 @@ fn call(
     entries: &mut [Entry],
 ) -> Told {
     match trial {
-        Trial::Post => told_of(post(month, 23, 50_000, &[LINE, LINE], agents, accounts, contracts, marks, entries)),
+        Trial::Post => told_of(post(
+            month,
+            23,
+            50_000,
+            &[LINE, LINE],
+            agents,
+            accounts,
+            contracts,
+            marks,
+            entries,
+        )),
         Trial::Withdraw => told_of(withdraw(month, 0, agents, accounts, contracts, marks, entries)),
-        Trial::Statement => told_of(provisional(month, 2, agents, accounts, contracts, marks, entries)),
+        Trial::Statement => told_of(provisional(
+            month,
+            2,
+            agents,
+            accounts,
+            contracts,
+            marks,
+            entries,
+        )),
         Trial::Day => told_of(day_total(month, 2, 1, agents, accounts, contracts, marks, entries)),
     }
 }
@@ -149,7 +187,16 @@ pub(crate) fn tried(sizes: Sizes, damage: Damage, trial: Trial) -> Told {
     let mut contracts: [Option<Contract>; 65] = [None; 65];
     let mut marks = [1u8; 25];
     let mut entries = [nothing; 49];
-    let opened = open(2, 1, 6, &agents[0..2], &mut accounts[0..2], &mut contracts[0..64], &mut marks[0..24], &mut entries[0..48]);
+    let opened = open(
+        2,
+        1,
+        6,
+        &agents[0..2],
+        &mut accounts[0..2],
+        &mut contracts[0..64],
+        &mut marks[0..24],
+        &mut entries[0..48],
+    );
     match opened {
         Err(fault) => told_of::<()>(Err(fault)),
         Ok(month) => {

@@ -44,7 +44,9 @@ impl Agent {
         ensures { λ r. ⌜ r ≡ agentFits (now (self .entry)) ⌝ }
     {
         match self.known_role() {
-            Some(role) => self.capacity <= MOST_CAPACITY && self.power <= MOST_POWER && (role.is_generator() || self.power == 0),
+            Some(role) => self.capacity <= MOST_CAPACITY
+                && self.power <= MOST_POWER
+                && (role.is_generator() || self.power == 0),
             None => false,
         }
     }

@@ -51,7 +51,10 @@ impl BookFault {
         ensures { λ r. ⌜ r ≡ placeOf (now (self .entry)) ⌝ }
     {
         match self {
-            BookFault::WrongSize | BookFault::StoredOutside | BookFault::OutsideBook | BookFault::NoCarrier => 0,
+            BookFault::WrongSize
+            | BookFault::StoredOutside
+            | BookFault::OutsideBook
+            | BookFault::NoCarrier => 0,
             BookFault::Posting(fault) => fault.place(),
             BookFault::FreeHour(hour) => *hour,
         }

@@ -51,7 +51,9 @@ impl Line {
         match self.known_class() {
             Some(Class::Normal) => self.gross == 0 && self.cost == 0 && self.cause == 0,
             Some(Class::Obligated) => self.may_have_to_run(role) && self.cause == 0,
-            Some(Class::Forced) => self.may_have_to_run(role) && self.cause >= 1 && self.cause <= count,
+            Some(Class::Forced) => self.may_have_to_run(role)
+                && self.cause >= 1
+                && self.cause <= count,
             None => false,
         }
     }

@@ -15,7 +15,11 @@ impl OpenMonth {
         requires known_weekday { ⌜ weekday ≤ 6 ⌝ }
         ensures { λ r. ⌜ figuresOf r ≡ monthFigures agents days weekday ⌝ }
     {
-        OpenMonth { agents, days, weekday }
+        OpenMonth {
+            agents,
+            days,
+            weekday,
+        }
     }
 
     /// The figures that it was opened with.
@@ -33,11 +37,12 @@ impl OpenMonth {
     pub fn retire(self) -> MonthFigures
         ensures { λ r. ⌜ r ≡ figuresOf self ⌝ }
     {
-        let OpenMonth { agents, days, weekday } = self;
-        MonthFigures {
-            agents,
-            days,
-            weekday,
-        }
+        let figures = self.figures();
+        let OpenMonth {
+            agents: _,
+            days: _,
+            weekday: _,
+        } = self;
+        figures
     }
 }

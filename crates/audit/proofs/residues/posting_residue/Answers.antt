@@ -19,11 +19,12 @@ difference-abs : (a b : ℕ) → a ≤ 7680000000000 → b ≤ 7680000000000 →
 difference-abs a b small few = omega (arith, ints)
 
 pub loop-line-again : need.loop-line-again
-loop-line-again c =
-    (omega (arith, sumTo-more (c .loop-line .line-index) (λ j. withdrawnAmount (c .args .price) (lineAt (c .args .lines .now) j)), c .amount-withdrawn .ensures .value, c .loop-line .inv .0),
-    omega (arith, c .amount-withdrawn .ensures .bound, c .loop-line .inv .1),
-    omega (arith, sumTo-more (c .loop-line .line-index) (λ j. injectedAmount (c .args .price) (lineAt (c .args .lines .now) j)), c .amount-injected .ensures .value, c .loop-line .inv .2),
-    omega (arith, c .amount-injected .ensures .bound, c .loop-line .inv .3))
+loop-line-again c = (
+  omega (arith, sumTo-more (c .loop-line .line-index) (λ j. withdrawnAmount (c .args .price) (lineAt (c .args .lines .now) j)), c .amount-withdrawn .ensures .value, c .loop-line .inv .0),
+  omega (arith, c .amount-withdrawn .ensures .bound, c .loop-line .inv .1),
+  omega (arith, sumTo-more (c .loop-line .line-index) (λ j. injectedAmount (c .args .price) (lineAt (c .args .lines .now) j)), c .amount-injected .ensures .value, c .loop-line .inv .2),
+  omega (arith, c .amount-injected .ensures .bound, c .loop-line .inv .3),
+)
 
 pub returns : need.returns
 returns c =

@@ -27,7 +27,7 @@ loop-agent-again c =
     let m : Memory = memoryOf (c .args .agents .now) (c .args .accounts .now) (c .args .contracts .now) (c .args .marks .now) (c .args .entries .now) in
     let inside : i < c .args .month .now .agents = omega (arith, ap (λ f. f .agents) (c .figures-agent-end .ensures)) in
     let told : Ok (c .unwrap .result) ≡ Ok (statementIn (hoursOf (c .args .month .now .days)) i m) =
-          sym (c .unwrap .ensures) ∙ c .provisional .ensures ∙ statement-read (figuresOf (c .args .month .now)) m i (c .pre .sized) (c .pre .stored) inside in
+    sym (c .unwrap .ensures) ∙ c .provisional .ensures ∙ statement-read (figuresOf (c .args .month .now)) m i (c .pre .sized) (c .pre .stored) inside in
     let made : c .unwrap .result ≡ statementIn (hoursOf (c .args .month .now .days)) i m = cc in
     below-more _ _
     (λ k h. let ne : k ≢ i = omega arith in getD-set-other (c .loop-agent .statements) i k (c .unwrap .result) noStatement ne ∙ c .loop-agent .inv k h)

@@ -29,10 +29,10 @@ pub returns : need.returns
 returns c =
     pair-same _ _
     (money-same _ _
-      (difference _ _ _ _ (c .amount-earned .ensures .value) (c .amount-spent .ensures .value)
-        (omega (arith, c .amount-earned .ensures .bound)) (omega (arith, c .amount-spent .ensures .bound)))
-      (sym (wrapped-fits w64 (pos 0) zero-fits))
-      (difference _ _ _ _ (c .excess-on .ensures .value) (λ i. c .args .caused + c .args .carried)
-        (omega (arith, c .excess-on .ensures .bound)) (omega (arith, c .pre .caused-within, c .pre .carried-within)))
-      (sym (wrapped-fits w64 (pos 0) zero-fits)))
+    (difference _ _ _ _ (c .amount-earned .ensures .value) (c .amount-spent .ensures .value)
+    (omega (arith, c .amount-earned .ensures .bound)) (omega (arith, c .amount-spent .ensures .bound)))
+    (sym (wrapped-fits w64 (pos 0) zero-fits))
+    (difference _ _ _ _ (c .excess-on .ensures .value) (λ i. c .args .caused + c .args .carried)
+    (omega (arith, c .excess-on .ensures .bound)) (omega (arith, c .pre .caused-within, c .pre .carried-within)))
+    (sym (wrapped-fits w64 (pos 0) zero-fits)))
     (energy-same _ _ (search needs) (search needs))

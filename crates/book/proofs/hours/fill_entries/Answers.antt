@@ -38,9 +38,9 @@ loop-i-again c =
     let i = c .loop-i .i in
     let line = lineAt (c .args .lines .now) i in
     let made : c .entry .result ≡ entryOf (hourOf (c .args .agents .now) (c .args .price) (c .args .lines .now) i) =
-          c .entry .ensures
-          ∙ ap (λ n. entryOf (figuresWith (c .args .price) line n (getD (c .fill-parts .last .parts) i 0))) (c .caused-excess .ensures .value)
-          ∙ ap (λ n. entryOf (figuresWith (c .args .price) line (causedSum (c .args .price) (c .args .lines .now) i) n)) (part-read (c .args .agents .now) (c .args .price) (c .args .lines .now) (c .fill-parts .last .parts) (c .loop-i .i) (c .fill-parts .ensures)) in
+    c .entry .ensures
+    ∙ ap (λ n. entryOf (figuresWith (c .args .price) line n (getD (c .fill-parts .last .parts) i 0))) (c .caused-excess .ensures .value)
+    ∙ ap (λ n. entryOf (figuresWith (c .args .price) line (causedSum (c .args .price) (c .args .lines .now) i) n)) (part-read (c .args .agents .now) (c .args .price) (c .args .lines .now) (c .fill-parts .last .parts) (c .loop-i .i) (c .fill-parts .ensures)) in
     below-more _ _
     (λ k h. let ne : k ≢ i = omega arith in rw getD-set-other (c .loop-i .inv k h))
     (let lt : i < length (c .loop-i .fresh) = omega arith in getD-set-same (c .loop-i .fresh) i (c .entry .result) noHolding lt ∙ made)

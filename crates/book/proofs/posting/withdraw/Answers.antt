@@ -35,16 +35,16 @@ returns c =
     let entries-long : length (c .args .entries .now) ≡ n * hoursOf (c .args .month .now .days) = search needs in
     let fresh : ℕ → Holding = λ i. getD (take (n - 0) (replicate 64 (c .neutral-nothing .result))) i noHolding in
     let neutral : (i : ℕ) → i < n → fresh i ≡ noHolding =
-          λ i below. front-replicate n 64 i (c .neutral-nothing .result) below (subst (λ k. k ≤ 64) (sym count) (c .args .month .now .«few_agents»)) ∙ c .neutral-nothing .ensures in
+    λ i below. front-replicate n 64 i (c .neutral-nothing .result) below (subst (λ k. k ≤ 64) (sym count) (c .args .month .now .«few_agents»)) ∙ c .neutral-nothing .ensures in
     let long : length (c .args .entries .now) ≡ n * hours = entries-long ∙ ap (λ days. n * hoursOf days) (sym (is .1)) in
     let entries-are =
-          c .replace-hour .ensures .entries
-          ∙ entriesWith-same hours (stamp .hour) n (stamp .within) fresh (λ i. noHolding) neutral (c .args .entries .now) long
-          ∙ (λ k. entriesWith (hoursOf (is .1 k)) (is .0 k) (λ i. noHolding) (c .args .entries .now)) in
+    c .replace-hour .ensures .entries
+    ∙ entriesWith-same hours (stamp .hour) n (stamp .within) fresh (λ i. noHolding) neutral (c .args .entries .now) long
+    ∙ (λ k. entriesWith (hoursOf (is .1 k)) (is .0 k) (λ i. noHolding) (c .args .entries .now)) in
     let accounts-are =
-          c .replace-hour .ensures .accounts
-          ∙ accountsWith-same hours (stamp .hour) n (stamp .within) fresh (λ i. noHolding) neutral (c .args .entries .now) (c .args .accounts .now) accounts-long
-          ∙ (λ k. accountsWith (hoursOf (is .1 k)) (is .0 k) (λ i. noHolding) (c .args .entries .now) (c .args .accounts .now)) in
+    c .replace-hour .ensures .accounts
+    ∙ accountsWith-same hours (stamp .hour) n (stamp .within) fresh (λ i. noHolding) neutral (c .args .entries .now) (c .args .accounts .now) accounts-long
+    ∙ (λ k. accountsWith (hoursOf (is .1 k)) (is .0 k) (λ i. noHolding) (c .args .entries .now) (c .args .accounts .now)) in
     withdraw-accepted (figuresOf (c .args .month .now)) m (c .args .hour) _
     (c .in-Continue-check-memory .ensures tt) (c .in-Continue-stamp .ensures tt .fault) (ne-eqb _ _ (c .if-marks-hour-eq-FREE .left))
     (λ k. memoryOf (c .args .agents .now) (accounts-are k) (c .args .contracts .now) (set (c .args .marks .now) (c .args .hour) 0) (entries-are k))

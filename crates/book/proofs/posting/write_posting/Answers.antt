@@ -18,7 +18,7 @@ returns c =
     let new : ℕ → Holding = λ i. entryOf (hourOf (c .args .agents .now) (c .args .price) (c .args .lines .now) i) in
     let fresh : ℕ → Holding = λ i. getD (c .fill-entries .last .fresh) i noHolding in
     let same : (i : ℕ) → i < n → fresh i ≡ new i =
-          λ i below. ap (λ es. getD es i noHolding) (c .fill-entries .ensures) ∙ getD-map-counting new 0 n i i noHolding below (omega arith) in
+    λ i below. ap (λ es. getD es i noHolding) (c .fill-entries .ensures) ∙ getD-map-counting new 0 n i i noHolding below (omega arith) in
     record {
       entries = c .replace-hour .ensures .entries ∙ entriesWith-same hours (stamp .hour) n (stamp .within) fresh new same (c .args .entries .now) (c .pre .entries-long);
       accounts = c .replace-hour .ensures .accounts ∙ accountsWith-same hours (stamp .hour) n (stamp .within) fresh new same (c .args .entries .now) (c .args .accounts .now) (c .pre .accounts-long);

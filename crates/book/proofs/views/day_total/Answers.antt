@@ -46,7 +46,7 @@ returns c =
     let agents-most : c .args .agent ≤ month .agents = omega (arith, ap (λ (f : MonthFigures). f .agents) is, c .if-agent-figures .left) in
     let days-most : c .args .day ≤ month .days = omega (arith, ap (λ (f : MonthFigures). f .days) is, c .if-day-figures .left) in
     let known : metIf ((eqb (c .args .agent) 0 || ltb (month .agents) (c .args .agent)) || (eqb (c .args .day) 0 || ltb (month .days) (c .args .day))) OutsideBook ≡ None =
-          ap (λ b. metIf b OutsideBook)
-          (or-from _ _ (or-from _ _ (ne-eqb _ _ (c .if-agent-eq0 .left)) (le-ltb _ _ agents-most)) (or-from _ _ (ne-eqb _ _ (c .if-day-eq0 .left)) (le-ltb _ _ days-most))) in
+    ap (λ b. metIf b OutsideBook)
+    (or-from _ _ (or-from _ _ (ne-eqb _ _ (c .if-agent-eq0 .left)) (le-ltb _ _ agents-most)) (or-from _ _ (ne-eqb _ _ (c .if-day-eq0 .left)) (le-ltb _ _ days-most))) in
     look-accepted (figuresOf month) m _ (daySum (24 * month .days) i day (c .args .entries .now)) (c .day-from .result) (c .in-Continue-check-memory .ensures tt) known
     (c .day-from .ensures ∙ ap (λ (f : MonthFigures). daySum (24 * f .days) i day (c .args .entries .now)) is)

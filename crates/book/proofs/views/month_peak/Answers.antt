@@ -18,9 +18,9 @@ part-peak : (entries : List Holding) (first hours : ℕ) → length (take (first
 part-peak entries first hours long =
     ap (λ n. peakOver n (λ hour. getD (take (first + hours - first) (drop first entries)) hour noHolding)) long
     ∙ ap (total noPeak peakJoined)
-      (map-counting-same hours _ _
-      (λ hour below. ap (λ (e : Holding). peakOf (e .second .withdrawn) hour)
-        (getD-take (first + hours - first) (drop first entries) hour noHolding (omega arith) ∙ getD-drop first entries hour noHolding)))
+    (map-counting-same hours _ _
+    (λ hour below. ap (λ (e : Holding). peakOf (e .second .withdrawn) hour)
+    (getD-take (first + hours - first) (drop first entries) hour noHolding (omega arith) ∙ getD-drop first entries hour noHolding)))
 
 pub returns : need.returns
 returns c =

@@ -48,10 +48,10 @@ returns c =
     let most : c .args .agent ≤ month .agents = omega (arith, ap (λ (f : MonthFigures). f .agents) is, c .if-agent-figures .left) in
     let inside : i < length (c .args .accounts .now) = omega (arith, accounts-sized (figuresOf month) m none, c .if-agent-eq0 .left, most) in
     let known : metIf (eqb (c .args .agent) 0 || ltb (month .agents) (c .args .agent)) OutsideBook ≡ None =
-          ap (λ b. metIf b OutsideBook) (or-from _ _ (ne-eqb _ _ (c .if-agent-eq0 .left)) (le-ltb _ _ most)) in
+    ap (λ b. metIf b OutsideBook) (or-from _ _ (ne-eqb _ _ (c .if-agent-eq0 .left)) (le-ltb _ _ most)) in
     let account-is = getD-read (c .args .accounts .now) i (c .index-accounts-index .result) inside (c .index-accounts-index .is) noHolding in
     let peak-is =
-          c .month-peak-peak .ensures
-          ∙ ap (λ (f : MonthFigures). peakOver (24 * f .days) (λ hour. getD (c .args .entries .now) (i * (24 * f .days) + hour) noHolding)) is in
+    c .month-peak-peak .ensures
+    ∙ ap (λ (f : MonthFigures). peakOver (24 * f .days) (λ hour. getD (c .args .entries .now) (i * (24 * f .days) + hour) noHolding)) is in
     look-accepted (figuresOf month) m _ (statementIn (24 * month .days) i m) (c .statement .result) none known
     (c .statement .ensures ∙ (λ k. statementOf (account-is k) (peak-is k)))
