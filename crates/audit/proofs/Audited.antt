@@ -1,12 +1,12 @@
 -- A whole audit: from what its parts ensure to the law. Assumes nothing.
 use Prim.Native.Nat.{ℕ, _*_, _≤_, _<_}
-use mathlib.Core.Bool.{Bool, true, false, not, _&&_, _||_}
+use mathlib.Core.Bool.{true, not, _||_}
 use mathlib.Core.List.{List, [], _∷_, map, map-map}
 use mathlib.Core.Path.{_≡_, refl, sym, ap, subst, _∙_}
 use native.Mathlib.Omega.{arith}
-use lib.Dec.{eqb, leb, ltb}
+use lib.Dec.{leb, ltb}
 use lib.IntN.{ℤ, pos, natAbs, negℤ}
-use lib.ListN.{length, getD}
+use lib.ListN.{length}
 use Rattle.std.specs.declared.option.Option.{Option}
 use Rattle.std.specs.declared.option.Option.the-variants.{Some, None}
 use Rattle.std.specs.declared.result.Result.the-variants.{Ok, Err}
@@ -32,9 +32,9 @@ use Rattle.audit.specs.Law.{Settled}
 use Rattle.audit.specs.Reading.{openingOf, requestOf, replyOf, workedIn}
 use Rattle.audit.specs.Requests.{Opening, countIn, hoursIn, Request}
 use Rattle.audit.specs.Runs.{noStatement, balanceAt, answersTo, memoryAfter}
-use Rattle.audit.specs.Standing.{Standing, nothingStands, after}
+use Rattle.audit.specs.Standing.{nothingStands, after}
 use Rattle.audit.specs.Told.{residueTold, AllMeasured}
-use Rattle.audit.specs.Worked.{worked, residueFrom, repliesFrom, balanceOf, balancesAfter, residueAfter}
+use Rattle.audit.specs.Worked.{worked, repliesFrom, balanceOf, balancesAfter, residueAfter}
 use Rattle.audit.proofs.Balance.{balanced}
 use Rattle.audit.proofs.Bounds.{balance-abs}
 use Rattle.audit.proofs.Checked.{NoneMet, firstMet-none, firstMet-one}

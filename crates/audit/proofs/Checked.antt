@@ -1,22 +1,20 @@
 -- What a posting that meets no fault is known to be. Assumes nothing.
-use Prim.Native.Nat.{ℕ, _+_, _≤_, _<_}
-use mathlib.Core.Bool.{Bool, true, false, _||_}
+use Prim.Native.Nat.{ℕ, _<_}
+use mathlib.Core.Bool.{Bool, true, false}
 use mathlib.Core.List.{List, [], _∷_}
 use mathlib.Core.Path.{_≡_, refl, sym, ap, _∙_}
 use native.Mathlib.Omega.{arith}
-use lib.Dec.{leb, ltb}
 use lib.ListN.{length}
 use Rattle.std.specs.declared.option.Option.{Option}
 use Rattle.std.specs.declared.option.Option.the-variants.{Some, None}
-use Rattle.std.proofs.shelf.Tests.{or-parts, leb-false, ltb-false}
+use Rattle.std.proofs.shelf.Tests.{leb-false}
 use Rattle.book.specs.declared.faults.LineFault.{LineFault}
 use Rattle.book.specs.declared.faults.BookFault.{BookFault}
 use Rattle.book.specs.declared.faults.BookFault.the-variants.{NoCarrier}
 use Rattle.book.specs.Faults.{metIf, firstMet, ofPosting}
 use Rattle.book.specs.Hour.{lineAt, roleAt}
 use Rattle.book.specs.Lines.{lineKept}
-use Rattle.book.specs.PostingFaults.{hourFault, headFault, limitFault, ruleFault, togetherFault, injectedTogether, withdrawnTogether, uncarried, Measured}
-use Rattle.book.specs.Sums.{firstFailing}
+use Rattle.book.specs.PostingFaults.{hourFault, headFault, limitFault, ruleFault, togetherFault, uncarried, Measured}
 use Rattle.book.proofs.Bounds.{Within, within-limits}
 use Rattle.book.proofs.Measured.{unmet, mapped-none, each-passed, head-long, measured}
 use Rattle.audit.specs.Requests.{Opening, countIn, hoursIn, Posting}

@@ -1,7 +1,7 @@
 -- Each call on memory that holds what stands: the answer is the one worked from what stands, and memory holds what stands then. Assumes nothing.
 use Prim.Native.Nat.{ℕ, _-_, _≤_, _<_}
-use mathlib.Core.Bool.{Bool, true, false, cond, not, _||_}
-use mathlib.Core.List.{List, [], _∷_}
+use mathlib.Core.Bool.{cond, not, _||_}
+use mathlib.Core.List.{[], _∷_}
 use mathlib.Core.Logic.{⊎-elim}
 use mathlib.Core.Path.{_≡_, refl, sym, ap, subst, _∙_}
 use native.Mathlib.Omega.{arith}
@@ -12,7 +12,6 @@ use Rattle.std.specs.Options.{isSome}
 use Rattle.std.proofs.shelf.Tests.{cases-lt, le-leb, leb-false, eqb-false, ltb-false, or-parts}
 use Rattle.book.specs.declared.faults.BookFault.{BookFault}
 use Rattle.book.specs.declared.faults.BookFault.the-variants.{OutsideBook, NoCarrier, FreeHour}
-use Rattle.book.specs.declared.lines.Line.{Line}
 use Rattle.book.specs.Calls.{Outcome, outcome, entryOf, postFault, posted, withdrawFault, withdrawn, statementIn, statementFault, stated}
 use Rattle.book.specs.Faults.{metIf, firstMet, ofPosting, answerOf}
 use Rattle.book.specs.Hour.{hourOf}

@@ -1,9 +1,8 @@
 -- The residue that the answers tell of, from call to call. Assumes nothing.
 use Prim.Native.Nat.{ℕ, _+_, _≤_, _<_}
-use mathlib.Core.Bool.{Bool, true, cond}
+use mathlib.Core.Bool.{true, cond}
 use mathlib.Core.List.{List, _∷_, map}
-use mathlib.Core.Path.{_≡_, refl, sym, ap, subst, _∙_}
-use native.Mathlib.Omega.{arith}
+use mathlib.Core.Path.{_≡_, sym, ap, subst, _∙_}
 use lib.IntN.{ℤ, pos, natAbs}
 use lib.ListN.{length, getD, drop}
 use Rattle.std.proofs.shelf.Lists.{drop-more, at-drop-all}
@@ -25,9 +24,6 @@ module _ (hour : ℕ) (calls : List Call) (answers : List Answer) where
     pub told : toldFrom i residue ≡ toldFrom 0 (pos 0)
     pub measured : MeasuredFrom i
     pub bound : natAbs residue ≤ 7680000000000
-
-  pub left-none : MeasuredFrom 0 → Left 0 (pos 0)
-  left-none measured = record { told = refl; measured = measured; bound = omega arith }
 
   -- the call at hand, and its answer
   module _ (i : ℕ) (residue : ℤ) (c : Call) (a : Answer) (within : i < length calls) (place : i < length answers) (is : c ≡ getD calls i c) (was : a ≡ getD answers i a) (so : Left i residue) where

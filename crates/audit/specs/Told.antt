@@ -7,7 +7,7 @@ use lib.Dec.{eqb}
 use lib.IntN.{ℤ, pos}
 use Rattle.book.specs.Hour.{residueOf}
 use Rattle.book.specs.PostingFaults.{Measured}
-use Rattle.audit.specs.Requests.{Posting, Request, posting, withdrawal, statement}
+use Rattle.audit.specs.Requests.{Request, posting, withdrawal, statement}
 use Rattle.audit.specs.Worked.{Reply, accepted, stated, refused}
 
 -- whether a posting or a withdrawal was done

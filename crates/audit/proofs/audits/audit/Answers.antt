@@ -1,8 +1,8 @@
-use Prim.Native.Nat.{_*_}
+use Prim.Native.Nat.{ℕ, _*_}
 use mathlib.Core.List.{map}
 use mathlib.Core.Path.{sym, ap, _∙_}
 use native.Mathlib.Omega.{arith}
-use lib.IntN.{pos}
+use lib.IntN.{ℤ, pos}
 use mir.Syntax.{w64}
 use Rattle.std.proofs.shelf.Results.{err-from-errBy}
 use Rattle.std.proofs.shelf.Signed.{toZ-ofZ}
@@ -18,9 +18,17 @@ use Rattle.audit.proofs.Audited.{audit-opening, open-accepted, open-refused, R
 use Rattle.audit.proofs.audits.audit.Needs as need
 use Rattle.audit.proofs.audits.audit.Needs.{After-replay}
 
--- the run, once the calls are made
-ran : (c : After-replay) → Ran (figuresOf (c .in-Continue-month .month)) (memoryOf (c .args .agents .now) (c .args .accounts .now) (c .args .contracts .now) (c .args .marks .now) (c .args .entries .now)) (c .args .calls .now) (c .replay .last .answers) (memoryOf (c .args .agents .now) (c .replay .last .accounts) (c .open .last .contracts) (c .replay .last .marks) (c .replay .last .entries))
-ran c = ran-from (monthFigures (c .args .count) (c .args .days) (c .args .weekday)) (figuresOf (c .in-Continue-month .month)) _ _ (c .args .calls .now) (c .replay .last .answers) _ (c .in-Continue-month .ensures tt) (c .replay .ensures .told) (c .replay .ensures .holds)
+-- the book's memory as it was lent, and once the calls are made
+abbrev lent : After-replay → Memory
+lent c = memoryOf (c .args .agents .now) (c .args .accounts .now) (c .args .contracts .now) (c .args .marks .now) (c .args .entries .now)
+
+abbrev held : After-replay → Memory
+held c = memoryOf (c .args .agents .now) (c .replay .last .accounts) (c .open .last .contracts) (c .replay .last .marks) (c .replay .last .entries)
+
+ran : (c : After-replay) → Ran (figuresOf (c .in-Continue-month .month)) (lent c) (c .args .calls .now) (c .replay .last .answers) (held c)
+ran c =
+    ran-from (monthFigures (c .args .count) (c .args .days) (c .args .weekday)) (figuresOf (c .in-Continue-month .month)) (lent c) _ (c .args .calls .now) (c .replay .last .answers) (held c)
+    (c .in-Continue-month .ensures tt) (c .replay .ensures .told) (c .replay .ensures .holds)
 
 pub returns-in-Break-month : need.returns-in-Break-month
 returns-in-Break-month c =
@@ -62,15 +70,16 @@ standing-residue-requires c κs =
 
 pub returns : need.returns
 returns c =
+    let replayed = need.at·returns c .After-replay in
     let f : MonthFigures = monthFigures (c .args .count) (c .args .days) (c .args .weekday) in
-    let m : Memory = memoryOf (c .args .agents .now) (c .args .accounts .now) (c .args .contracts .now) (c .args .marks .now) (c .args .entries .now) in
+    let m : Memory = lent replayed in
     let came = open-accepted (openFault f m) f (figuresOf (c .in-Continue-month .month)) m _ (emptied m) (c .in-Continue-month .ensures tt) in
+    let told : ℕ → ℤ = λ hour. residueTold hour (pos 0) (map requestOf (c .args .calls .now)) (map replyOf (c .replay .last .answers)) in
     record {
       fault = sym (audit-opening f _ (lentOf m (c .args .answers .now) (c .args .statements .now)) (c .if-answers-calls .left) (c .if-statements-agents .left) ∙ came .0);
       untouched = tt;
       settled =
-          ran-settled _ m (c .args .calls .now) _ _ (ran (need.at·returns c .After-replay)) _ (c .fill-statements .ensures) f (came .1) _ _
+          ran-settled _ m (c .args .calls .now) _ _ (ran replayed) _ (c .fill-statements .ensures) f (came .1) _ _
           (toZ-ofZ w64 _ (record { sfits = c .balances-together .ok }) ∙ c .balances-together .ensures)
-          (toZ-ofZ w64 _ (record { sfits = c .standing-residue .ok }) ∙ c .standing-residue .ensures
-          ∙ ap (λ g. sumToℤ (24 * g .days) (λ hour. residueTold hour (pos 0) (map requestOf (c .args .calls .now)) (map replyOf (c .replay .last .answers)))) (c .retire-figures .ensures));
+          (toZ-ofZ w64 _ (record { sfits = c .standing-residue .ok }) ∙ c .standing-residue .ensures ∙ ap (λ g. sumToℤ (24 * g .days) told) (c .retire-figures .ensures));
     }
