@@ -4,11 +4,13 @@ ghost use mathlib.Core.List.{map};
 ghost use lib.ListN.{length};
 ghost use Rattle.std.specs.Results.{errPart};
 ghost use Rattle.std.specs.Vec.{made, refused};
+ghost use Rattle.book.specs.Calls.{emptied};
 ghost use Rattle.book.specs.Memory.{memoryOf};
 ghost use Rattle.book.specs.Months.{monthFigures};
 ghost use Rattle.audit.specs.Audits.{lentOf, auditFault};
 ghost use Rattle.audit.specs.Law.{Settled};
 ghost use Rattle.audit.specs.Reading.{openingOf, requestOf, replyOf, workedIn};
+ghost use Rattle.audit.specs.Runs.{memoryAfter};
 use crate::calls::Answer;
 use crate::calls::Call;
 use crate::residues::standing_residue;
@@ -47,6 +49,7 @@ pub fn audit(
 ) -> Result<Totals, BookFault>
     ensures fault { λ r. ⌜ errPart r ≡ auditFault (monthFigures count days weekday) (length (now (calls .entry))) (lentOf (memoryOf (now (agents .entry)) (now (accounts .entry)) (now (contracts .entry)) (now (marks .entry)) (now (entries .entry))) (now (answers .entry)) (now (statements .entry))) ⌝ }
     ensures untouched { λ r. ⌜ refused r (λ _. lentOf (memoryOf (now (agents .entry)) (now (accounts .exit)) (now (contracts .exit)) (now (marks .exit)) (now (entries .exit))) (now (answers .exit)) (now (statements .exit)) ≡ lentOf (memoryOf (now (agents .entry)) (now (accounts .entry)) (now (contracts .entry)) (now (marks .entry)) (now (entries .entry))) (now (answers .entry)) (now (statements .entry))) ⌝ }
+    ensures memory { λ r. ⌜ made r (λ _. memoryOf (now (agents .entry)) (now (accounts .exit)) (now (contracts .exit)) (now (marks .exit)) (now (entries .exit)) ≡ memoryAfter (monthFigures count days weekday) (now (calls .entry)) (emptied (memoryOf (now (agents .entry)) (now (accounts .entry)) (now (contracts .entry)) (now (marks .entry)) (now (entries .entry))))) ⌝ }
     ensures settled { λ r. ⌜ made r (λ totals. Settled (openingOf days weekday (now (agents .entry))) (map requestOf (now (calls .entry))) (map replyOf (now (answers .exit))) (map workedIn (now (statements .exit))) (totals .balances) (totals .residue)) ⌝ }
 {
     if answers.len() != calls.len() || statements.len() != agents.len() {

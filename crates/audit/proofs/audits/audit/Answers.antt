@@ -13,6 +13,7 @@ use Rattle.book.specs.Months.{monthFigures, figuresOf}
 use Rattle.book.specs.Sums.{sumToℤ}
 use Rattle.audit.specs.Audits.{lentOf}
 use Rattle.audit.specs.Reading.{requestOf, replyOf}
+use Rattle.audit.specs.Runs.{memoryAfter}
 use Rattle.audit.specs.Told.{residueTold}
 use Rattle.audit.proofs.Audited.{audit-opening, open-accepted, open-refused, Ran, ran-from, ran-few, ran-days, ran-agents, ran-sized, ran-stored, ran-measured, ran-long, ran-small, ran-settled}
 use Rattle.audit.proofs.audits.audit.Needs as need
@@ -39,6 +40,7 @@ returns-in-Break-month c =
     rw (p .1, p .2) (record {
       fault = sym (audit-opening f _ (lentOf m (c .args .answers .now) (c .args .statements .now)) (c .if-answers-calls .left) (c .if-statements-agents .left) ∙ left .0);
       untouched = ap (λ memory. lentOf memory (c .args .answers .now) (c .args .statements .now)) (left .1);
+      memory = tt;
       settled = tt;
     })
 
@@ -78,6 +80,7 @@ returns c =
     record {
       fault = sym (audit-opening f _ (lentOf m (c .args .answers .now) (c .args .statements .now)) (c .if-answers-calls .left) (c .if-statements-agents .left) ∙ came .0);
       untouched = tt;
+      memory = ran replayed .holds ∙ ap (λ g. memoryAfter g (c .args .calls .now) (emptied m)) (came .1);
       settled =
           ran-settled _ m (c .args .calls .now) _ _ (ran replayed) _ (c .fill-statements .ensures) f (came .1) _ _
           (toZ-ofZ w64 _ (record { sfits = c .balances-together .ok }) ∙ c .balances-together .ensures)
