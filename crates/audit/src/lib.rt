@@ -1,4 +1,6 @@
 //! The audit of a list of calls: the whole month is replayed and settled in memory that the host lends.
+#![tactic(auto)]
+
 mod audits;
 mod calls;
 mod residues;

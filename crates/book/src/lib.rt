@@ -1,6 +1,8 @@
 //! The book of a month in a power pool, kept in memory that the host lends.
 //!
 //! Every call answers, whatever figures and memory it is given; a refusal names its fault and leaves all memory as it was.
+#![tactic(auto)]
+
 mod agents;
 mod faults;
 mod holdings;

@@ -1,4 +1,6 @@
 // The calendar of a month: its hours, counted from the first midnight, and the week that they fall in.
+#![tactic(auto)]
+
 mod bands;
 mod stamp;
 #[cfg(test)]

@@ -2,6 +2,7 @@
 //
 // A form answers three questions: whether it takes terms, how much energy an hour has under them, and what the two parties owe
 // each other for it. Whoever writes a new form implements `ContractForm`.
+#![tactic(auto)]
 
 mod block;
 mod by_kind;

@@ -1,4 +1,6 @@
 //! The program: runs the journal of a month's book, and says in words what came of it.
+#![tactic(auto)]
+
 mod choices;
 mod dollars;
 mod expected;

@@ -1,6 +1,8 @@
 // A contract form of another shape, written outside `forms`: a fixed daily profile, sold at the contract's price.
 //
 // It stands for the forms that others write: its meaning in specs/, its three answers here, and in proofs/ what it keeps.
+#![tactic(auto)]
+
 mod daily;
 mod range;
 #[cfg(test)]

@@ -1,6 +1,8 @@
 //! Tallies: values that join, in any order, into one total.
 //!
 //! A statement, an hour and an account are all tallies, so that one fold and one update serve them all.
+#![tactic(auto)]
+
 pub mod energy;
 pub mod folds;
 pub mod money;

@@ -1,6 +1,7 @@
 // What energy is worth, and how points are shared.
 //
 // Money is counted in points of 1/10,000 US dollar.
+#![tactic(auto)]
 
 mod limits;
 mod overcost;
