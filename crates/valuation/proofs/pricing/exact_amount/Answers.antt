@@ -7,8 +7,8 @@ use Rattle.valuation.proofs.pricing.exact_amount.Goals as goal
 limited : (c : goal.After-from-3) → c.from.result * c.from-2.result * c.from-3.result ≤ most_energy * most_factor * most_price
 limited c = product_le _ _ _ (omega arith) (omega arith) (omega arith)
 
-pub overflow-mul-result-2 : goal.overflow-mul-result-2
-overflow-mul-result-2 c = omega (arith, limited c)
+pub overflow_mul-result-2 : goal.overflow_mul-result-2
+overflow_mul-result-2 c = omega (arith, limited c)
 
 pub returns : goal.returns
 returns c = record { value = cc; bound = limited c }

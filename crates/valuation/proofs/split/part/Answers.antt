@@ -3,11 +3,11 @@ use Rattle.std.proofs.Common.{◌%◌, arith}
 use Rattle.valuation.proofs.Sharing.{part_at_within, share_grows}
 use Rattle.valuation.proofs.split.part.Goals as goal
 
-pub overflow-mul-result : goal.overflow-mul-result
-overflow-mul-result c = omega (arith, part_at_within c.args.points c.args.total (omega arith) c.args.before c.args.weight c.requires.within)
+pub overflow_mul-result : goal.overflow_mul-result
+overflow_mul-result c = omega (arith, part_at_within c.args.points c.args.total (omega arith) c.args.before c.args.weight c.requires.within)
 
-pub overflow-add-result : goal.overflow-add-result
-overflow-add-result c = omega (arith, part_at_within c.args.points c.args.total (omega arith) c.args.before c.args.weight c.requires.within)
+pub overflow_add-result : goal.overflow_add-result
+overflow_add-result c = omega (arith, part_at_within c.args.points c.args.total (omega arith) c.args.before c.args.weight c.requires.within)
 
 pub returns : goal.returns
 returns c = record {
