@@ -9,7 +9,7 @@ const HOURS: usize = 24;
 
 /// All of `items` together.
 pub fn fold<T: Tally + Copy>(items: &[T]) -> T
-    ensures { result ≡ total nothing joined items.now }
+    ensures { result ≡ total T.nothing T.joined items.now }
 {
     let mut sum = T::neutral();
     for item in items {
@@ -20,15 +20,15 @@ pub fn fold<T: Tally + Copy>(items: &[T]) -> T
 
 /// The account after one of its items changed from `old` to `new`.
 pub fn update<T: Tally + Reversible + Copy>(account: T, old: T, new: T) -> T
-    ensures value { result ≡ joined (joined account (undone old)) new }
-    ensures keeps { (xs : List T) (i : ℕ) → i < length xs → slice_index_or xs i old ≡ old → account ≡ total nothing joined xs → result ≡ total nothing joined (slice_set xs i new) }
+    ensures value { result ≡ T.joined (T.joined account (T.undone old)) new }
+    ensures keeps { (xs : List T) (i : ℕ) → i < length xs → slice_index_or xs i old ≡ old → account ≡ total T.nothing T.joined xs → result ≡ total T.nothing T.joined (slice_set xs i new) }
 {
     account.join(old.opposite()).join(new)
 }
 
 /// All of a day together: the twenty-four items from its first hour on, or as many as there are.
 pub fn fold_day<T: Tally + Copy>(month: &[T], day: usize) -> T
-    ensures { result ≡ total nothing joined (take 24 (drop (24 * day) month.now)) }
+    ensures { result ≡ total T.nothing T.joined (take 24 (drop (24 * day) month.now)) }
 {
     let first = HOURS.saturating_mul(day).min(month.len());
     let end = first.saturating_add(HOURS).min(month.len());
@@ -37,7 +37,7 @@ pub fn fold_day<T: Tally + Copy>(month: &[T], day: usize) -> T
 
 /// All of a month together, day by day.
 pub fn fold_days<T: Tally + Copy>(month: &[T]) -> T
-    ensures { result ≡ total nothing joined month.now }
+    ensures { result ≡ total T.nothing T.joined month.now }
 {
     let mut sum = T::neutral();
     for day in 0..month.len().div_ceil(HOURS) {

@@ -6,7 +6,7 @@ use Rattle.tally.proofs.folds.fold_days.Goals as goal
 pub loop-day-preserved : goal.loop-day-preserved
 loop-day-preserved g c =
     let t = g.T.Tally in
-    let joined = rw (c.loop-day.invariant, c.fold-day.ensures) at c.join-sum.ensures in
+    let joined = rw (c.loop-day.invariant, c.fold_day.ensures) at c.join-sum.ensures in
     let day = c.loop-day.day in
     joined ∙ total_part g.met.T.Tally.lawful 24 (24 * day) c.args.month.now ∙ ap (λ n. total t.nothing t.joined (take n c.args.month.now)) (omega arith)
 
