@@ -6,8 +6,6 @@ use Rattle.forms.specs.Quantities.{quantity_in_le, share_buyer, shared_energy_le
 use Rattle.forms.specs.Kinds.{block, share}
 use Rattle.forms.specs.Layers.{by_kind, capped, lowered, product_meaning}
 use Rattle.forms.specs.Meaning.{Meaning, Keeps}
-use Rattle.forms.specs.declared.Contract.{Contract}
-use Rattle.forms.specs.declared.Facts.{Facts}
 
 -- the two kinds
 pub block_keeps : Keeps block

@@ -3,7 +3,6 @@ use Rattle.std.specs.Prelude.{ℕ, ◌-◌, min, cond, ◌==◌}
 use Rattle.forms.specs.Kinds.{block, share}
 use Rattle.forms.specs.Meaning.{Meaning}
 use Rattle.forms.specs.declared.Contract.{Contract}
-use Rattle.forms.specs.declared.Parties.{Parties}
 
 -- The quantity lowered by the contract's margin. It is at least 0, since natural subtraction stops there.
 abbrev pub lowered : Meaning → Meaning

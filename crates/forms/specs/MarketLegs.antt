@@ -2,7 +2,7 @@
 use Rattle.std.specs.Prelude.{ℕ, ◌≤◌, Bool}
 use Rattle.std.proofs.Common.{arith}
 use Rattle.std.proofs.lemmas.Int.{ints}
-use Rattle.forms.specs.Market.{bar_factor, factor_at, value_of, cost_of, market_legs}
+use Rattle.forms.specs.Market.{factor_at, value_of, cost_of, market_legs}
 use Rattle.forms.specs.Meaning.{Balanced, Settled}
 use Rattle.forms.specs.Measured.{Measured}
 use Rattle.forms.specs.declared.Contract.{Contract}

@@ -1,5 +1,5 @@
 -- The facts of an hour, as an accepted posting can have them. Assumes nothing.
-use Rattle.std.specs.Prelude.{◌≡◌, ℕ, ◌+◌, ◌≤◌, Bool, cond, ◌&&◌, ◌==◌, ◌≢◌, nat_le}
+use Rattle.std.specs.Prelude.{◌≡◌, ◌+◌, ◌≤◌, Bool, cond, ◌&&◌, ◌==◌, ◌≢◌, nat_le}
 use Rattle.forms.specs.Terms.{distributor}
 use Rattle.forms.specs.declared.Facts.{Facts}
 use Rattle.forms.specs.declared.Parties.{Parties}

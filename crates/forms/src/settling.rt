@@ -7,8 +7,8 @@ use crate::{Contract, Facts, Legs, Parties};
 
 /// The legs of the hour's quantity.
 fn hour_legs<F: ContractForm>(form: &F, terms: Contract, parties: Parties, facts: Facts) -> Legs
-    requires { Settles (meaning form.now) terms parties facts }
-    ensures { result ≡ hour_legs (meaning form.now) terms parties facts }
+    requires { Settles (F.meaning form.now) terms parties facts }
+    ensures { result ≡ hour_legs (F.meaning form.now) terms parties facts }
 {
     let quantity = form.quantity(terms, parties, facts);
     form.legs(terms, parties, facts, quantity)
@@ -21,10 +21,10 @@ pub fn settle_hour<F: ContractForm>(
     parties: Parties,
     facts: Facts,
 ) -> Legs
-    requires { Settles (meaning form.now) terms parties facts }
-    ensures value { result ≡ hour_legs (meaning form.now) terms parties facts }
+    requires { Settles (F.meaning form.now) terms parties facts }
+    ensures value { result ≡ hour_legs (F.meaning form.now) terms parties facts }
     ensures balanced { Balanced result }
-    ensures alike { (other : Meaning) → Alike (meaning form.now) other → result ≡ hour_legs other terms parties facts }
+    ensures alike { (other : Meaning) → Alike (F.meaning form.now) other → result ≡ hour_legs other terms parties facts }
 {
     hour_legs(form, terms, parties, facts)
 }

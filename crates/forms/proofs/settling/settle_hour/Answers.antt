@@ -5,7 +5,7 @@ pub returns : goal.returns
 returns g c =
     let keeps = g.met.F.ContractForm.keeps c.args.form.now in
     record {
-      value = c.hour-legs.ensures;
-      balanced = hour_balanced keeps _ _ _ c.requires _ c.hour-legs.ensures;
-      alike = hour_alike keeps _ _ _ c.requires _ c.hour-legs.ensures;
+      value = c.hour_legs.ensures;
+      balanced = hour_balanced keeps _ _ _ c.requires _ c.hour_legs.ensures;
+      alike = hour_alike keeps _ _ _ c.requires _ c.hour_legs.ensures;
     }
