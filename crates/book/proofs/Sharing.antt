@@ -1,5 +1,5 @@
 -- The weights of an hour's sharing, and its parts. Assumes nothing.
-use Rattle.std.proofs.Common.{◌≡◌, ℕ, ◌^◌, ◌<◌, ◌≤◌, true, false, List, length, Some, None, sum, Option, sym, refl, ap, ◌∙◌, arith}
+use Rattle.std.proofs.Common.{◌≤◌, List, length, Some, None, sum, Option, arith}
 use Rattle.book.specs.declared.agents.Agent.{Agent}
 use Rattle.book.specs.declared.agents.Role.{Role}
 use Rattle.book.specs.declared.agents.Role.TheVariants.{Generator, Distributor, Consumer}

@@ -1,5 +1,5 @@
 -- What a posting gives all agents together: the market lines add up to minus the hour's residue, and the overcost lines to 0. Assumes nothing.
-use Rattle.std.proofs.Common.{◌≡◌, ℕ, zero, suc, ◌+◌, ◌-◌, ◌<◌, ◌≤◌, Bool, true, false, cond, ◌&&◌, eqb, ltb, leb, ◌⊎◌, List, length, ℤ, pos, ◌+ℤ◌, ◌-ℤ◌, neg_ℤ, Some, None, sum, Option, sym, refl, ap, ◌∙◌, subst, inl, inr, eq-zero-or-pos, arith}
+use Rattle.std.proofs.Common.{◌≡◌, ℕ, zero, suc, ◌+◌, ◌-◌, ◌<◌, ◌≤◌, Bool, true, false, cond, ◌&&◌, eqb, ltb, leb, ◌⊎◌, List, length, pos, ◌+ℤ◌, ◌-ℤ◌, neg_ℤ, Some, None, sum, Option, sym, refl, ap, ◌∙◌, subst, inl, inr, eq-zero-or-pos, arith}
 use Rattle.std.proofs.lemmas.List.FromFn.{length-map-range_with_len}
 use Rattle.std.proofs.lemmas.Int.{ints}
 use Rattle.std.proofs.lemmas.Bool.{false≢true, and_parts, and_cases, leb-true, ltb-false, eq-eqb, ne_eqb, eqb-false, cond-true, cond-false}

@@ -1,5 +1,5 @@
 -- Each call on a book: its answer, and all memory after it. Assumes nothing.
-use Rattle.std.specs.Prelude.{ℕ, ◌+◌, ◌-◌, ◌*◌, ◌/◌, ◌%◌, Bool, cond, not, ◌&&◌, ◌||◌, List, [], ◌∷◌, map, length, get_or, take, drop, replicate, ℤ, pos, ◌+ℤ◌, Some, None, Ok, Err, Option, Result, ◌==◌, nat_lt, slice_index, slice_index_or, slice_set}
+use Rattle.std.specs.Prelude.{ℕ, ◌+◌, ◌-◌, ◌*◌, ◌/◌, ◌%◌, cond, not, ◌||◌, List, [], ◌∷◌, map, length, get_or, take, drop, replicate, pos, ◌+ℤ◌, Some, None, Ok, Err, Option, Result, ◌==◌, nat_lt, slice_index, slice_index_or, slice_set}
 use Rattle.std.specs.List.{range_with_len}
 use Rattle.std.specs.Int.{int_wrap, w64}
 use Rattle.tally.specs.declared.peak.Peak.{Peak}
@@ -16,7 +16,7 @@ use Rattle.book.specs.declared.faults.BookFault.TheVariants.{OutsideBook, NoCarr
 use Rattle.book.specs.Agents.{agent_fits}
 use Rattle.book.specs.Faults.{met_if, first_met, of_posting, answer_of}
 use Rattle.book.specs.Hour.{Figures, hour_of}
-use Rattle.book.specs.Memory.{Memory, Holding, no_holding, holding_joined, holding_undone, sized, all_of, size_fault, stored_fault}
+use Rattle.book.specs.Memory.{Memory, Holding, no_holding, holding_joined, holding_undone, all_of, size_fault, stored_fault}
 use Rattle.book.specs.Months.{hours_of, size_known}
 use Rattle.book.specs.PostingFaults.{hour_fault, line_fault, uncarried}
 

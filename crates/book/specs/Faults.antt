@@ -1,5 +1,5 @@
 -- The faults by number and place, and how one of several is answered. Assumes nothing.
-use Rattle.std.specs.Prelude.{ℕ, Bool, true, false, cond, List, [], ◌∷◌, Some, None, Ok, Err, Option, Result}
+use Rattle.std.specs.Prelude.{ℕ, Bool, cond, List, [], ◌∷◌, Some, None, Ok, Err, Option, Result}
 use Rattle.book.specs.declared.faults.LineFault.{LineFault}
 use Rattle.book.specs.declared.faults.LineFault.TheVariants.{HourOutside, OutsideLimit, BreaksRule, TooMuchTogether}
 use Rattle.book.specs.declared.faults.BookFault.{BookFault}

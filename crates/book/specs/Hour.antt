@@ -1,5 +1,5 @@
 -- What a posting gives each agent at its hour. Agents and lines are counted from 0. Assumes nothing.
-use Rattle.std.specs.Prelude.{ℕ, ◌+◌, Bool, true, false, cond, ◌&&◌, List, map, length, get_or, ℤ, pos, ◌-ℤ◌, Some, None, sum, Option, ◌==◌, slice_index_or}
+use Rattle.std.specs.Prelude.{ℕ, ◌+◌, Bool, true, false, cond, ◌&&◌, List, map, length, get_or, ℤ, pos, ◌-ℤ◌, Some, None, Option, ◌==◌, slice_index_or}
 use Rattle.std.specs.List.{range_with_len}
 use Rattle.valuation.specs.Amounts.{amount_of}
 use Rattle.valuation.specs.Excess.{excess_of}

@@ -1,5 +1,5 @@
 -- The lines of a posting: their limits and their rules. Assumes nothing.
-use Rattle.std.specs.Prelude.{ℕ, Bool, true, false, cond, ◌&&◌, ◌||◌, Some, None, Option, ◌==◌, nat_le}
+use Rattle.std.specs.Prelude.{ℕ, Bool, false, cond, ◌&&◌, Some, None, Option, ◌==◌, nat_le}
 use Rattle.book.specs.declared.agents.Role.{Role}
 use Rattle.book.specs.declared.lines.Class.{Class}
 use Rattle.book.specs.declared.lines.Class.TheVariants.{Normal, Obligated, Forced}

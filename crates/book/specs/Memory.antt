@@ -1,5 +1,5 @@
 -- The memory of a book that the host lends, and what a call finds wrong in it. Assumes nothing.
-use Rattle.std.specs.Prelude.{ℕ, ◌*◌, Bool, true, false, not, ◌&&◌, List, [], ◌∷◌, length, sum_by, Option, ◌==◌, nat_le}
+use Rattle.std.specs.Prelude.{ℕ, ◌*◌, Bool, true, not, ◌&&◌, List, [], ◌∷◌, length, sum_by, Option, ◌==◌, nat_le}
 use Rattle.tally.specs.declared.money.Money.{Money}
 use Rattle.tally.specs.declared.energy.Energy.{Energy}
 use Rattle.tally.specs.declared.pair.Pair.{Pair}

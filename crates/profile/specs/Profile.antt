@@ -4,8 +4,6 @@ use Rattle.calendar.specs.declared.bands.Band.{Band}
 use Rattle.calendar.specs.declared.bands.Band.TheVariants.{Peak, Medium, Base}
 use Rattle.forms.specs.Market.{cost_of}
 use Rattle.forms.specs.Meaning.{Meaning}
-use Rattle.forms.specs.declared.Contract.{Contract}
-use Rattle.forms.specs.declared.Facts.{Facts}
 
 -- The base quantity in base hours, a half of it in medium hours and a quarter in peak hours, rounded down.
 abbrev pub profiled : Band → ℕ → ℕ

@@ -21,17 +21,17 @@ lent c = memory_of c.args.agents.now c.args.accounts.now c.args.contracts.now c.
 abbrev held : After-replay → Memory
 held c = memory_of c.args.agents.now c.replay.new.accounts c.open.new.contracts c.replay.new.marks c.replay.new.entries
 
-ran : (c : After-replay) → Ran (figures_of c.in-ok-month.month) (lent c) c.args.calls.now c.replay.new.answers (held c)
+ran : (c : After-replay) → Ran (figures_of c.in_ok-month.month) (lent c) c.args.calls.now c.replay.new.answers (held c)
 ran c =
-    ran_from (month_figures c.args.count c.args.days c.args.weekday) (figures_of c.in-ok-month.month) (lent c) _ c.args.calls.now c.replay.new.answers (held c)
-    c.in-ok-month.ensures c.replay.ensures.told c.replay.ensures.holds
+    ran_from (month_figures c.args.count c.args.days c.args.weekday) (figures_of c.in_ok-month.month) (lent c) _ c.args.calls.now c.replay.new.answers (held c)
+    c.in_ok-month.ensures c.replay.ensures.told c.replay.ensures.holds
 
-pub returns-in-err-month : goal.returns-in-err-month
-returns-in-err-month c =
+pub returns-in_err-month : goal.returns-in_err-month
+returns-in_err-month c =
     let f : MonthFigures = month_figures c.args.count c.args.days c.args.weekday in
     let m : Memory = memory_of c.args.agents.now c.args.accounts.now c.args.contracts.now c.args.marks.now c.args.entries.now in
-    let p = err_from_is_err_and c.from-residual.result c.from-residual.ensures.1 in
-    let left = open_refused (open_fault f m) f c.in-err-month.field-0.0 m _ (emptied m) c.in-err-month.ensures in
+    let p = err_from_is_err_and c.from_residual.result c.from_residual.ensures.1 in
+    let left = open_refused (open_fault f m) f c.in_err-month.field-0.0 m _ (emptied m) c.in_err-month.ensures in
     rw (p.1, p.2) (record {
       fault = sym (audit_opening f _ (lent_of m c.args.answers.now c.args.statements.now) c.if-answers-calls.false c.if-statements-agents.false ∙ left.0);
       untouched = ap (λ memory. lent_of memory c.args.answers.now c.args.statements.now) left.1;
@@ -39,26 +39,26 @@ returns-in-err-month c =
       settled = tt;
     })
 
-pub fill-statements-requires : goal.fill-statements-requires
-fill-statements-requires c =
-    let r = ran (goal.at.fill-statements-requires c).After-replay in
+pub fill_statements-requires : goal.fill_statements-requires
+fill_statements-requires c =
+    let r = ran (goal.at.fill_statements-requires c).After-replay in
     record {
       long = omega (arith, c.if-statements-agents.false, ran_agents _ _ _ _ _ r);
       sized = ran_sized _ _ _ _ _ r;
       stored = ran_stored _ _ _ _ _ r;
     }
 
-pub balances-together-requires : goal.balances-together-requires
-balances-together-requires c =
-    let r = ran (goal.at.balances-together-requires c).After-replay in
+pub balances_together-requires : goal.balances_together-requires
+balances_together-requires c =
+    let r = ran (goal.at.balances_together-requires c).After-replay in
     record {
-      few = omega (arith, ran-long _ _ _ _ _ r _ c.fill-statements.ensures, ran_few _ _ _ _ _ r);
-      small = ran-small _ _ _ _ _ r _ c.fill-statements.ensures;
+      few = omega (arith, ran-long _ _ _ _ _ r _ c.fill_statements.ensures, ran_few _ _ _ _ _ r);
+      small = ran-small _ _ _ _ _ r _ c.fill_statements.ensures;
     }
 
-pub standing-residue-requires : goal.standing-residue-requires
-standing-residue-requires c =
-    let r = ran (goal.at.standing-residue-requires c).After-replay in
+pub standing_residue-requires : goal.standing_residue-requires
+standing_residue-requires c =
+    let r = ran (goal.at.standing_residue-requires c).After-replay in
     record {
       few = omega (arith, ap (λ f. f.days) c.retire-figures.ensures, ran_days _ _ _ _ _ r);
       long = omega (arith, c.replay.auto.answers, c.if-answers-calls.false);
@@ -70,14 +70,14 @@ returns c =
     let replayed = (goal.at.returns c).After-replay in
     let f : MonthFigures = month_figures c.args.count c.args.days c.args.weekday in
     let m : Memory = lent replayed in
-    let came = open_accepted (open_fault f m) f (figures_of c.in-ok-month.month) m _ (emptied m) c.in-ok-month.ensures in
+    let came = open_accepted (open_fault f m) f (figures_of c.in_ok-month.month) m _ (emptied m) c.in_ok-month.ensures in
     let told : ℕ → ℤ = λ hour. residue_told hour (pos 0) (map request_of c.args.calls.now) (map reply_of c.replay.new.answers) in
     record {
       fault = sym (audit_opening f _ (lent_of m c.args.answers.now c.args.statements.now) c.if-answers-calls.false c.if-statements-agents.false ∙ came.0);
       untouched = tt;
       memory = (ran replayed).holds ∙ ap (λ g. memory_after g c.args.calls.now (emptied m)) came.1;
       settled =
-          ran_settled _ m c.args.calls.now _ _ (ran replayed) _ c.fill-statements.ensures f came.1 _ _
-          (to_z-of_z w64 _ (record { sfits = c.balances-together.type-inv }) ∙ c.balances-together.ensures)
-          (to_z-of_z w64 _ (record { sfits = c.standing-residue.type-inv }) ∙ c.standing-residue.ensures ∙ ap (λ g. sum_to_ℤ (24 * g.days) told) c.retire-figures.ensures);
+          ran_settled _ m c.args.calls.now _ _ (ran replayed) _ c.fill_statements.ensures f came.1 _ _
+          (to_z-of_z w64 _ (record { sfits = c.balances_together.type_inv }) ∙ c.balances_together.ensures)
+          (to_z-of_z w64 _ (record { sfits = c.standing_residue.type_inv }) ∙ c.standing_residue.ensures ∙ ap (λ g. sum_to_ℤ (24 * g.days) told) c.retire-figures.ensures);
     }

@@ -9,8 +9,8 @@ use Rattle.audit.proofs.totals.balances_together.Goals as goal
 balance_read : (statements : List Statement) (i : ℕ) (s : Statement) → i < length statements → s ≡ get_or statements i s → s.balance ≡ balance_at statements i
 balance_read statements i s within is = ap (λ st. st.balance) (get_or_read statements i s within is no_statement)
 
-pub overflow-add-sum : goal.overflow-add-sum
-overflow-add-sum c =
+pub overflow_add-sum : goal.overflow_add-sum
+overflow_add-sum c =
     let i : ℕ = c.loop-statement.statement-index in
     let is = balance_read c.args.statements.now i c.statement-item.result c.loop-statement-test.true c.statement-item.is in
     sum_fits _ c.statement-item.result.balance (omega (arith, c.requires.few, c.loop-statement.invariant.1)) (omega (arith, c.requires.small i c.loop-statement-test.true, ap nat_abs is))

@@ -5,6 +5,6 @@ use Rattle.book.proofs.hours.caused_excess.Goals as goal
 
 pub loop-line-preserved : goal.loop-line-preserved
 loop-line-preserved c = (
-  omega (arith, sum_to_more c.loop-line.line-index (λ j. caused_on c.args.price c.args.index (line_at c.args.lines.now j)), c.caused-on-sum.ensures.value, c.loop-line.invariant.0),
-  omega (arith, c.caused-on-sum.ensures.bound, c.loop-line.invariant.1),
+  omega (arith, sum_to_more c.loop-line.line-index (λ j. caused_on c.args.price c.args.index (line_at c.args.lines.now j)), c.caused_on-sum.ensures.value, c.loop-line.invariant.0),
+  omega (arith, c.caused_on-sum.ensures.bound, c.loop-line.invariant.1),
 )

@@ -1,7 +1,6 @@
-use Rattle.std.proofs.Common.{◌≡◌, ℕ, ◌+◌, ◌^◌, ◌<◌, ◌≤◌, ℤ, pos, ◌-ℤ◌, sym, ap, ◌∙◌, arith, w64, SFits, to_z, of_z, rules}
-use Rattle.std.proofs.lemmas.Int.{ints, int_wrap_fits, to_z-of_z}
+use Rattle.std.proofs.Common.{◌≡◌, ℕ, ◌+◌, ◌≤◌, pos, ◌-ℤ◌, sym, ◌∙◌, arith, w64, SFits, to_z, of_z, rules}
+use Rattle.std.proofs.lemmas.Int.{ints, int_wrap_fits}
 use Rattle.std.specs.Int.{int_wrap}
-use lib.Signed.{mag}
 use Rattle.tally.specs.EnergyLaws.{energy_same}
 use Rattle.tally.specs.MoneyLaws.{money_same}
 use Rattle.tally.proofs.PairLaws.{pair_same}
@@ -26,7 +25,7 @@ returns c =
     (difference _ _ _ _ c.amount-earned.ensures.value c.amount-spent.ensures.value
     (omega (arith, c.amount-earned.ensures.bound)) (omega (arith, c.amount-spent.ensures.bound)))
     (sym (int_wrap_fits w64 (pos 0) zero_fits))
-    (difference _ _ _ _ c.excess-on.ensures.value (λ i. c.args.caused + c.args.carried)
-    (omega (arith, c.excess-on.ensures.bound)) (omega (arith, c.requires.caused-within, c.requires.carried-within)))
+    (difference _ _ _ _ c.excess_on.ensures.value (λ i. c.args.caused + c.args.carried)
+    (omega (arith, c.excess_on.ensures.bound)) (omega (arith, c.requires.caused_within, c.requires.carried_within)))
     (sym (int_wrap_fits w64 (pos 0) zero_fits)))
     (energy_same _ _ (search rules) (search rules))

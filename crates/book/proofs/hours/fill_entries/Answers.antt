@@ -1,4 +1,4 @@
-use Rattle.std.proofs.Common.{◌≡◌, ℕ, ◌<◌, ◌≢◌, List, length, get_or, sym, ap, ◌∙◌, arith, below_more}
+use Rattle.std.proofs.Common.{◌≡◌, ℕ, ◌<◌, ◌≢◌, List, length, get_or, ap, ◌∙◌, arith, below_more}
 use Rattle.std.proofs.lemmas.List.FromFn.{fill_by_all}
 use Rattle.std.proofs.lemmas.List.{get_or-set_same, get_or-set_other}
 use Rattle.valuation.specs.Sharing.{parts_of}
@@ -22,9 +22,9 @@ entry-requires c =
     let sane = c.requires.measured in
     record {
       price_within = sane.price_within;
-      line_within_lem = sane.each_within c.loop-i.i c.loop-i-test.true;
-      caused-within = c.caused-excess.ensures.bound;
-      carried-within = omega (arith, part_read c.args.agents.now c.args.price c.args.lines.now c.fill-parts.new.parts c.loop-i.i c.fill-parts.ensures, carried_le c.args.price c.args.lines.now sane c.args.agents.now c.loop-i.i c.loop-i-test.true);
+      line_within = sane.each_within c.loop-i.i c.loop-i-test.true;
+      caused_within = c.caused_excess.ensures.bound;
+      carried_within = omega (arith, part_read c.args.agents.now c.args.price c.args.lines.now c.fill_parts.new.parts c.loop-i.i c.fill_parts.ensures, carried_le c.args.price c.args.lines.now sane c.args.agents.now c.loop-i.i c.loop-i-test.true);
     }
 
 pub loop-i-preserved : goal.loop-i-preserved
@@ -33,8 +33,8 @@ loop-i-preserved c =
     let line = line_at c.args.lines.now i in
     let made : c.entry.result ≡ entry_of (hour_of c.args.agents.now c.args.price c.args.lines.now i) =
     c.entry.ensures
-    ∙ ap (λ n. entry_of (figures_with c.args.price line n (get_or c.fill-parts.new.parts i 0))) c.caused-excess.ensures.value
-    ∙ ap (λ n. entry_of (figures_with c.args.price line (caused_sum c.args.price c.args.lines.now i) n)) (part_read c.args.agents.now c.args.price c.args.lines.now c.fill-parts.new.parts c.loop-i.i c.fill-parts.ensures) in
+    ∙ ap (λ n. entry_of (figures_with c.args.price line n (get_or c.fill_parts.new.parts i 0))) c.caused_excess.ensures.value
+    ∙ ap (λ n. entry_of (figures_with c.args.price line (caused_sum c.args.price c.args.lines.now i) n)) (part_read c.args.agents.now c.args.price c.args.lines.now c.fill_parts.new.parts c.loop-i.i c.fill_parts.ensures) in
     below_more _ _
     (λ k h. let ne : k ≢ i = omega arith in rw get_or-set_other (c.loop-i.invariant k h))
     (let lt : i < length c.loop-i.fresh = omega arith in get_or-set_same c.loop-i.fresh i c.entry.result no_holding lt ∙ made)

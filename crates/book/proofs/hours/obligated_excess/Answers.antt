@@ -5,6 +5,6 @@ use Rattle.book.proofs.hours.obligated_excess.Goals as goal
 
 pub loop-line-preserved : goal.loop-line-preserved
 loop-line-preserved c = (
-  omega (arith, sum_to_more c.loop-line.line-index (λ j. obligated_on c.args.price (line_at c.args.lines.now j)), c.obligated-on-sum.ensures.value, c.loop-line.invariant.0),
-  omega (arith, c.obligated-on-sum.ensures.bound, c.loop-line.invariant.1),
+  omega (arith, sum_to_more c.loop-line.line-index (λ j. obligated_on c.args.price (line_at c.args.lines.now j)), c.obligated_on-sum.ensures.value, c.loop-line.invariant.0),
+  omega (arith, c.obligated_on-sum.ensures.bound, c.loop-line.invariant.1),
 )

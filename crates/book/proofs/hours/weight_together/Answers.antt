@@ -7,7 +7,7 @@ use Rattle.book.proofs.hours.weight_together.Goals as goal
 pub loop-i-preserved : goal.loop-i-preserved
 loop-i-preserved c = (
   omega (arith, sum_to_more c.loop-i.i (weight_at c.args.agents.now c.args.lines.now), c.weight.ensures, c.loop-i.invariant.0),
-  omega (arith, c.weight.type-inv, c.loop-i.invariant.1),
+  omega (arith, c.weight.type_inv, c.loop-i.invariant.1),
 )
 
 pub returns : goal.returns

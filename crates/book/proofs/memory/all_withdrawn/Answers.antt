@@ -1,4 +1,4 @@
-use Rattle.std.proofs.Common.{◌≡◌, ◌≤◌, sym, ap, ◌∙◌, arith, rules}
+use Rattle.std.proofs.Common.{◌≤◌, ap, ◌∙◌, arith}
 use Rattle.std.proofs.lemmas.List.{take_all}
 use Rattle.std.proofs.lemmas.List.Sums.{sum_by_more}
 use Rattle.std.proofs.lemmas.Bool.{and_parts, leb-true}
@@ -13,8 +13,8 @@ within c =
     let fits = ap (energy_within 2976000000) c.account-item.is ∙ all_each (energy_within 2976000000) c.args.accounts.now c.loop-account.account-index item c.requires.fit c.loop-account-test.true in
     leb-true _ _ (and_parts _ _ fits).1
 
-pub overflow-add-sum : goal.overflow-add-sum
-overflow-add-sum c = let h = within c in record { fits = omega (arith, c.loop-account.invariant.1, c.requires.few) }
+pub overflow_add-sum : goal.overflow_add-sum
+overflow_add-sum c = let h = within c in record { fits = omega (arith, c.loop-account.invariant.1, c.requires.few) }
 
 pub loop-account-preserved : goal.loop-account-preserved
 loop-account-preserved c =

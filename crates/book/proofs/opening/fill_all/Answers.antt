@@ -1,4 +1,4 @@
-use Rattle.std.proofs.Common.{◌≡◌, ◌<◌, ◌≢◌, length, replicate, sym, ◌∙◌, arith, below_more}
+use Rattle.std.proofs.Common.{◌<◌, ◌≢◌, length, replicate, sym, ◌∙◌, arith, below_more}
 use Rattle.std.proofs.lemmas.List.{ext_get_or, get_or-replicate, length-replicate, get_or-set_same, get_or-set_other}
 use Rattle.book.proofs.opening.fill_all.Goals as goal
 

@@ -1,25 +1,25 @@
-use Rattle.std.proofs.Common.{◌≡◌, ℕ, List, set, ◌∙◌}
+use Rattle.std.proofs.Common.{ℕ, set, ◌∙◌}
 use Rattle.std.proofs.lemmas.Result.{err_from_is_err_and}
 use Rattle.book.specs.Calls.{entry_of, entries_with, accounts_with}
 use Rattle.book.specs.Hour.{hour_of}
-use Rattle.book.specs.Memory.{Memory, memory_of, Holding}
+use Rattle.book.specs.Memory.{memory_of, Holding}
 use Rattle.book.specs.Months.{figures_of, hours_of}
 use Rattle.book.proofs.Tables.{post_refused, post_accepted}
 use Rattle.book.proofs.posting.post.Goals as goal
 
-pub returns-in-err-check-memory : goal.returns-in-err-check-memory
-returns-in-err-check-memory c =
+pub returns-in_err-check_memory : goal.returns-in_err-check_memory
+returns-in_err-check_memory c =
     let m = memory_of c.args.agents.now c.args.accounts.now c.args.contracts.now c.args.marks.now c.args.entries.now in
-    let p = err_from_is_err_and c.from-residual.result c.from-residual.ensures.1 in
-    rw (p.1, p.2) (post_refused (figures_of c.args.month.now) m c.args.hour c.args.price c.args.lines.now _ c.in-err-check-memory.ensures)
+    let p = err_from_is_err_and c.from_residual.result c.from_residual.ensures.1 in
+    rw (p.1, p.2) (post_refused (figures_of c.args.month.now) m c.args.hour c.args.price c.args.lines.now _ c.in_err-check_memory.ensures)
 
 pub returns : goal.returns
 returns c =
     let m = memory_of c.args.agents.now c.args.accounts.now c.args.contracts.now c.args.marks.now c.args.entries.now in
-    let stamp = c.in-ok-stamp.ensures.stamp in
+    let stamp = c.in_ok-stamp.ensures.stamp in
     let new : ℕ → Holding = λ i. entry_of (hour_of c.args.agents.now c.args.price c.args.lines.now i) in
-    let entries-are = c.write-posting.ensures.entries ∙ (λ k. entries_with (hours_of (stamp.1 k)) (stamp.0 k) new c.args.entries.now) in
-    let accounts-are = c.write-posting.ensures.accounts ∙ (λ k. accounts_with (hours_of (stamp.1 k)) (stamp.0 k) new c.args.entries.now c.args.accounts.now) in
+    let entries-are = c.write_posting.ensures.entries ∙ (λ k. entries_with (hours_of (stamp.1 k)) (stamp.0 k) new c.args.entries.now) in
+    let accounts-are = c.write_posting.ensures.accounts ∙ (λ k. accounts_with (hours_of (stamp.1 k)) (stamp.0 k) new c.args.entries.now c.args.accounts.now) in
     post_accepted (figures_of c.args.month.now) m c.args.hour c.args.price c.args.lines.now _
-    c.in-ok-check-memory.ensures c.in-ok-stamp.ensures.fault c.in-ok-check-carriers.ensures
+    c.in_ok-check_memory.ensures c.in_ok-stamp.ensures.fault c.in_ok-check_carriers.ensures
     (λ k. memory_of c.args.agents.now (accounts-are k) c.args.contracts.now (set c.args.marks.now c.args.hour 1) (entries-are k))

@@ -13,10 +13,10 @@ returns c =
     let hours = hours_of stamp.days in
     let n = length c.args.lines.now in
     let new : ℕ → Holding = λ i. entry_of (hour_of c.args.agents.now c.args.price c.args.lines.now i) in
-    let fresh : ℕ → Holding = λ i. get_or c.fill-entries.new.fresh i no_holding in
+    let fresh : ℕ → Holding = λ i. get_or c.fill_entries.new.fresh i no_holding in
     let same : (i : ℕ) → i < n → fresh i ≡ new i =
-    λ i below. ap (λ es. get_or es i no_holding) c.fill-entries.ensures ∙ get_or-map-range_with_len new 0 n i i no_holding below (omega arith) in
+    λ i below. ap (λ es. get_or es i no_holding) c.fill_entries.ensures ∙ get_or-map-range_with_len new 0 n i i no_holding below (omega arith) in
     record {
-      entries = c.replace-hour.ensures.entries ∙ entries_with_same hours stamp.hour n stamp.within fresh new same c.args.entries.now c.requires.entries_long;
-      accounts = c.replace-hour.ensures.accounts ∙ accounts_with_same hours stamp.hour n stamp.within fresh new same c.args.entries.now c.args.accounts.now c.requires.accounts_long;
+      entries = c.replace_hour.ensures.entries ∙ entries_with_same hours stamp.hour n stamp.within fresh new same c.args.entries.now c.requires.entries_long;
+      accounts = c.replace_hour.ensures.accounts ∙ accounts_with_same hours stamp.hour n stamp.within fresh new same c.args.entries.now c.args.accounts.now c.requires.accounts_long;
     }

@@ -6,13 +6,13 @@ use Rattle.book.specs.Lines.{line_within}
 use Rattle.book.proofs.Checks.{first_more, first_here}
 use Rattle.book.proofs.postings.check_limits.Goals as goal
 
-pub returns-then-not-is-within-limits : goal.returns-then-not-is-within-limits
-returns-then-not-is-within-limits c =
+pub returns-then-not-is_within_limits : goal.returns-then-not-is_within_limits
+returns-then-not-is_within_limits c =
     ap (option_map (λ i. OutsideLimit (i + 1)))
-    (sym (first_here (λ i. line_within (line_at c.args.lines.now i)) c.loop-i.i (length c.args.lines.now) c.loop-i-test.true (sym c.if-not-is-within-limits.ensures))
+    (sym (first_here (λ i. line_within (line_at c.args.lines.now i)) c.loop-i.i (length c.args.lines.now) c.loop-i-test.true (sym c.if-not-is_within_limits.ensures))
     ∙ c.loop-i.invariant)
 
 pub loop-i-preserved : goal.loop-i-preserved
 loop-i-preserved c =
-    sym (first_more (λ i. line_within (line_at c.args.lines.now i)) c.loop-i.i (length c.args.lines.now) c.loop-i-test.true (sym c.if-not-is-within-limits.ensures))
+    sym (first_more (λ i. line_within (line_at c.args.lines.now i)) c.loop-i.i (length c.args.lines.now) c.loop-i-test.true (sym c.if-not-is_within_limits.ensures))
     ∙ c.loop-i.invariant

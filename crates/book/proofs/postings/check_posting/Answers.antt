@@ -6,11 +6,11 @@ use Rattle.book.proofs.postings.check_posting.Goals as goal
 
 pub returns : goal.returns
 returns c =
-    let head = c.in-ok-check-head.ensures ∙ ap (λ (f : MonthFigures). head_fault f.agents c.args.price c.args.lines.now) c.figures-count.ensures in
+    let head = c.in_ok-check_head.ensures ∙ ap (λ (f : MonthFigures). head_fault f.agents c.args.price c.args.lines.now) c.figures-count.ensures in
     let month = c.args.month.now in
     record {
       fault = search rules;
-      stamp = c.in-ok-stamp.ensures.stamp;
+      stamp = c.in_ok-stamp.ensures.stamp;
       long = head_long month.agents c.args.price c.args.lines.now head;
-      measured = measured month.agents c.args.price c.args.lines.now month.few_agents head c.in-ok-check-limits.ensures c.in-ok-check-together.ensures;
+      measured = measured month.agents c.args.price c.args.lines.now month.few_agents head c.in_ok-check_limits.ensures c.in_ok-check_together.ensures;
     }

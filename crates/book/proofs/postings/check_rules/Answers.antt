@@ -6,15 +6,15 @@ use Rattle.book.specs.Lines.{line_kept}
 use Rattle.book.proofs.Checks.{first_more, first_here}
 use Rattle.book.proofs.postings.check_rules.Goals as goal
 
-pub returns-then-not-keeps-its-class : goal.returns-then-not-keeps-its-class
-returns-then-not-keeps-its-class c =
+pub returns-then-not-keeps_its_class : goal.returns-then-not-keeps_its_class
+returns-then-not-keeps_its_class c =
     let kept : ℕ → Bool = λ i. line_kept c.args.count (role_at c.args.agents.now i) (line_at c.args.lines.now i) in
-    let role = ap (λ r. line_kept c.args.count r (line_at c.args.lines.now c.loop-i.i)) c.known-role.ensures in
+    let role = ap (λ r. line_kept c.args.count r (line_at c.args.lines.now c.loop-i.i)) c.known_role.ensures in
     ap (option_map (λ i. BreaksRule (i + 1)))
-    (sym (first_here kept c.loop-i.i (length c.args.lines.now) c.loop-i-test.true (sym (c.if-not-keeps-its-class.ensures ∙ role))) ∙ c.loop-i.invariant)
+    (sym (first_here kept c.loop-i.i (length c.args.lines.now) c.loop-i-test.true (sym (c.if-not-keeps_its_class.ensures ∙ role))) ∙ c.loop-i.invariant)
 
 pub loop-i-preserved : goal.loop-i-preserved
 loop-i-preserved c =
     let kept : ℕ → Bool = λ i. line_kept c.args.count (role_at c.args.agents.now i) (line_at c.args.lines.now i) in
-    let role = ap (λ r. line_kept c.args.count r (line_at c.args.lines.now c.loop-i.i)) c.known-role.ensures in
-    sym (first_more kept c.loop-i.i (length c.args.lines.now) c.loop-i-test.true (sym (c.if-not-keeps-its-class.ensures ∙ role))) ∙ c.loop-i.invariant
+    let role = ap (λ r. line_kept c.args.count r (line_at c.args.lines.now c.loop-i.i)) c.known_role.ensures in
+    sym (first_more kept c.loop-i.i (length c.args.lines.now) c.loop-i-test.true (sym (c.if-not-keeps_its_class.ensures ∙ role))) ∙ c.loop-i.invariant

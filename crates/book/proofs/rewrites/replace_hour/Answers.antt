@@ -37,10 +37,10 @@ loop-i-preserved c =
     let account-is : c.index-accounts-i.result ≡ get_or old i no_holding =
     get_or_read c.loop-i.accounts i c.index-accounts-i.result (omega (arith, c.loop-i.auto.accounts)) c.index-accounts-i.is no_holding
     ∙ settled_old hours hour stamp.within fresh before old i c.loop-i.accounts here c.loop-i.invariant.1 in
-    let updated : c.replace-entry.new.account ≡ account_after hours hour stamp.within fresh before old i =
-    c.replace-entry.ensures.account
+    let updated : c.replace_entry.new.account ≡ account_after hours hour stamp.within fresh before old i =
+    c.replace_entry.ensures.account
     ∙ (λ k. holding_joined (holding_joined ((sym c.index-accounts-i.is ∙ account-is) k) (holding_undone ((sym c.index-entries-at.is ∙ old-is) k))) (new_is k)) in (
-      subst (λ (x : ℕ × Holding). Rewritten hours hour stamp.within fresh before (i + 1) (set c.loop-i.entries x.0 x.1)) (λ k. (sym c.place-at.ensures k, sym (c.replace-entry.ensures.entry ∙ new_is) k))
+      subst (λ (x : ℕ × Holding). Rewritten hours hour stamp.within fresh before (i + 1) (set c.loop-i.entries x.0 x.1)) (λ k. (sym c.place-at.ensures k, sym (c.replace_entry.ensures.entry ∙ new_is) k))
           (rewritten_more hours hour stamp.within fresh before i c.loop-i.entries c.loop-i.auto.entries at c.loop-i.invariant.0),
       subst (λ x. Settled hours hour stamp.within fresh before old (i + 1) (set c.loop-i.accounts i x)) (sym updated)
           (settled_more hours hour stamp.within fresh before old i c.loop-i.accounts c.loop-i.auto.accounts here c.loop-i.invariant.1),

@@ -12,20 +12,20 @@ use Rattle.book.proofs.Columns.{month_within}
 use Rattle.book.proofs.Tables.{look_refused, look_accepted, entries_sized, accounts_sized}
 use Rattle.book.proofs.views.provisional.Goals as goal
 
-pub returns-in-err-check-memory : goal.returns-in-err-check-memory
-returns-in-err-check-memory c =
+pub returns-in_err-check_memory : goal.returns-in_err-check_memory
+returns-in_err-check_memory c =
     let m = memory_of c.args.agents.now c.args.accounts.now c.args.contracts.now c.args.marks.now c.args.entries.now in
-    let p = err_from_is_err_and c.from-residual.result c.from-residual.ensures.1 in
-    rw (p.1, p.2) (look_refused (figures_of c.args.month.now) m _ _ _ c.in-err-check-memory.ensures)
+    let p = err_from_is_err_and c.from_residual.result c.from_residual.ensures.1 in
+    rw (p.1, p.2) (look_refused (figures_of c.args.month.now) m _ _ _ c.in_err-check_memory.ensures)
 
-pub month-peak-peak-requires : goal.month-peak-peak-requires
-month-peak-peak-requires c =
+pub month_peak-peak-requires : goal.month_peak-peak-requires
+month_peak-peak-requires c =
     let m = memory_of c.args.agents.now c.args.accounts.now c.args.contracts.now c.args.marks.now c.args.entries.now in
     let month = c.args.month.now in
     let i = c.args.agent - 1 in
     let is = c.figures-figures.ensures in
     let inside : i < month.agents = omega (arith, ap (λ (f : MonthFigures). f.agents) is, c.if-agent-figures.false, c.if-agent-eq0.false) in
-    let size = entries_sized (figures_of month) m c.in-ok-check-memory.ensures in
+    let size = entries_sized (figures_of month) m c.in_ok-check_memory.ensures in
     let within : i * (24 * month.days) + 24 * month.days ≤ length c.args.entries.now = omega (arith, size, month_within (24 * month.days) month.agents i inside) in
     record {
       within = subst (λ (f : MonthFigures). i * (24 * f.days) + 24 * f.days ≤ length c.args.entries.now) (sym is) within;
@@ -38,14 +38,14 @@ returns c =
     let month = c.args.month.now in
     let i = c.args.agent - 1 in
     let is = c.figures-figures.ensures in
-    let none = c.in-ok-check-memory.ensures in
+    let none = c.in_ok-check_memory.ensures in
     let most : c.args.agent ≤ month.agents = omega (arith, ap (λ (f : MonthFigures). f.agents) is, c.if-agent-figures.false) in
     let inside : i < length c.args.accounts.now = omega (arith, accounts_sized (figures_of month) m none, c.if-agent-eq0.false, most) in
     let known : met_if (eqb c.args.agent 0 || ltb month.agents c.args.agent) OutsideBook ≡ None =
     ap (λ b. met_if b OutsideBook) (or_from _ _ (ne_eqb _ _ c.if-agent-eq0.false) (le-ltb _ _ most)) in
     let account-is = get_or_read c.args.accounts.now i c.index-accounts-index.result inside c.index-accounts-index.is no_holding in
     let peak-is =
-    c.month-peak-peak.ensures
+    c.month_peak-peak.ensures
     ∙ ap (λ (f : MonthFigures). peak_over (24 * f.days) (λ hour. get_or c.args.entries.now (i * (24 * f.days) + hour) no_holding)) is in
     look_accepted (figures_of month) m _ (statement_in (24 * month.days) i m) c.statement.result none known
     (c.statement.ensures ∙ (λ k. statement_of (account-is k) (peak-is k)))

@@ -8,5 +8,5 @@ use Rattle.gibzurg.proofs.numbers.number.Goals as goal
 pub returns : goal.returns
 returns c =
     let word = c.args.word.now in
-    let unsigned = not_from_Decides _ (starts_char 43 word _ c.starts-with.ensures.cases (omega arith) (omega arith)) c.if-starts-with.false in
+    let unsigned = not_from_Decides _ (starts_char 43 word _ c.starts_with.ensures.cases (omega arith) (omega arith)) c.if-starts_with.false in
     c.ok.ensures.value ∙ read_number word _ (parse_plain reading 32 word _ c.parse.ensures.value.0 unsigned)
