@@ -1,6 +1,5 @@
 -- A word that is none of the names is read as a number.
 use Rattle.std.proofs.Common.{◌≡◌, ℕ, ◌+◌, Bool, true, false, cond, List, [], ◌∷◌, Some, refl}
-use Rattle.std.specs.Str.{bytes_eq}
 use Rattle.std.proofs.lemmas.Slice.Eq.{bytes_eq-Decides}
 use Rattle.gibzurg.specs.Choices.{place_among}
 use Rattle.gibzurg.specs.Numbers.{number_of}

@@ -16,15 +16,18 @@ mod trouble;
 mod words;
 
 use std::io::Read;
+use std::process::ExitCode;
 use std::{env, fs};
 use trouble::Trouble;
 
-fn main(rt: HostRuntime) -> Result<(), Trouble> {
-    let outcome = run(&rt);
-    if let Err(trouble) = &outcome {
-        let _ = rt.eprintln(trouble);
+fn main(rt: HostRuntime) -> ExitCode {
+    match run(&rt) {
+        Ok(()) => ExitCode::SUCCESS,
+        Err(trouble) => {
+            let _ = rt.eprintln(trouble);
+            ExitCode::FAILURE
+        }
     }
-    outcome
 }
 
 /// Runs the command that the program was started with.
