@@ -1,8 +1,7 @@
 //! The daily profile.
 ghost use Rattle.std.specs.Prelude.{◌≡◌};
 ghost use Rattle.profile.specs.Profile.{profile, profiled};
-ghost use Rattle.std.proofs.Common.{rules};
-ghost use Rattle.valuation.proofs.Amounts.{cost_amount_of_le};
+ghost use Rattle.profile.specs.Kept.{profile_keeps};
 
 use calendar::Band;
 use forms::{Contract, ContractForm, Facts, Legs, Parties};
@@ -30,12 +29,7 @@ fn profiled_quantity(band: Band, base: u32) -> u32
 impl ContractForm for DailyProfile {
     ghost meaning = { λ _. profile };
 
-    ghost keeps = { λ form.
-        record {
-          quantity = Prim.search rules;
-          legs = λ terms parties facts quantity settles within.
-              let cost = cost_amount_of_le quantity terms.price within settles.valid.price in Prim.search rules;
-        } };
+    ghost keeps = { λ form. profile_keeps };
 
     fn takes(&self, terms: Contract, _parties: Parties) -> bool {
         terms.kind == PROFILE_KIND && terms.peak == 0 && terms.medium == 0 && terms.margin == 0
