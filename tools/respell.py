@@ -1,26 +1,30 @@
 #!/usr/bin/env python3
 """Gives the definitions and lemmas of this repository today's spelling: words in snake case, a dash only between two definitions' names.
 
-usage: python3 tools/respell.py    once, at the top of the repository, right after the toolchain's own script
+usage: python3 tools/respell.py    at the top of the repository, right after the toolchain's own script
 
-Read are the names that specs/ and proofs/ declare: definitions, lemmas, records' fields. Types keep their camel case, names that the
-checker makes (goals, steps, invariants) and names of src/ are left alone, and so is what stands in a string. A name that would fall
-together with another one stops the script before it writes."""
+Read are the names that specs/ and proofs/ declare: definitions, lemmas, records' fields, and what a `let` binds. Types keep their
+camel case, names that the checker makes (goals, steps, invariants) and names of src/ are left alone, and so is what stands in a
+string. A name that would fall together with another one stops the script before it writes. Run again, it finds nothing."""
 
 import os
 import re
 
 TOKEN = re.compile(r"[A-Za-z_ℕℤ][A-Za-z0-9_'ℕℤ]*(?:-[A-Za-z0-9_'ℕℤ]+)*")
-DECLARED = re.compile(r"(?m)^(?:(?:abbrev|unfoldable|pub|opaque)\s+)*(" + TOKEN.pattern + r") : (.*)")
-INDENTED = re.compile(r"  (?:pub )?(" + TOKEN.pattern + r") : ")
+DECLARED = re.compile(r"\s*((?:(?:abbrev|unfoldable|pub|opaque)\s+)*)(" + TOKEN.pattern + r") : (.*)")
+BOUND = re.compile(r"\blet (" + TOKEN.pattern + r")(?= |$)")
 IMPORTED = re.compile(r"(?m)^(?:ghost )?use (Rattle\.std|mathlib|Prim|native|lib)[\w.]*\.\{([^}]*)\}")
 STRING = re.compile(r'"(?:[^"\\]|\\.)*"')
 # plain words and letters of text, which are no names
 KEPT = {"kWh", "kW"}
 # a name of the library that the toolchain's script respelled, and that stood inside a name of ours
 INNER = {"getD": "slice_index_or"}
+# what the toolchain's script made of such a name
+MENDED = {"get_d_set": "get_or-set"}
 # definitions of the library that a lemma's name may begin with
-OUTER = {"length", "sum", "slice_index_or"}
+OUTER = {"length", "sum", "slice_index_or", "get_or"}
+# and with which it may go on
+NEXT = {"set"}
 
 
 def files(ends):
@@ -51,18 +55,16 @@ def declared():
     """What specs/ and proofs/ declare: definitions (also fields), and lemmas, which may have a dash."""
     definitions, lemmas = set(), set()
     for path in files(".antt"):
-        text = read(path)
-        for m in DECLARED.finditer(text):
-            if m[2].startswith("goal.") or m[1].startswith(("invariant-", "decreases-")):
-                continue
-            is_definition = m[0].startswith(("abbrev", "unfoldable"))
-            (definitions if is_definition else lemmas).add(m[1])
         in_record = False
-        for line in text.splitlines():
+        for line in read(path).splitlines():
             if line and not line.startswith(" "):
                 in_record = line.removeprefix("pub ").startswith("record ")
-            elif m := INDENTED.match(line):
-                (definitions if in_record else lemmas).add(m[1])
+            lemmas.update(m[1] for m in BOUND.finditer(line))
+            m = DECLARED.match(line)
+            if not m or m[3].startswith("goal.") or m[2].startswith(("invariant-", "decreases-")):
+                continue
+            is_definition = "abbrev" in m[1] or "unfoldable" in m[1] or (in_record and line.startswith(" "))
+            (definitions if is_definition else lemmas).add(m[2])
     return definitions, lemmas - definitions
 
 
@@ -76,6 +78,8 @@ def library():
 
 
 def new_name(name, definitions, known):
+    if name in MENDED:
+        return MENDED[name]
     parts = [snake(INNER.get(part, part)) for part in name.split("-")]
     if name in definitions:
         return "_".join(parts)
@@ -87,8 +91,7 @@ def new_name(name, definitions, known):
 
 def main():
     definitions, lemmas = declared()
-    # (partsOf is parts_of already, by the toolchain's script)
-    known = {snake(d) for d in definitions if is_camel(d)} | {"parts_of"}
+    known = {snake(d) for d in definitions if "-" not in d and "_" in snake(d)} | NEXT
     turned = {}
     for name in sorted(definitions | lemmas):
         new = new_name(name, definitions, known)

@@ -160,34 +160,34 @@ module _ (g : MonthFigures) (m : Memory) (calls : List Call) (answers : List Ans
   -- ---- the statements
 
   module _ (statements : List Statement) (stated : statements ≡ map (λ i. statement_in (hours_of g.days) i held) (range_with_len 0 g.agents)) where
-    pub ran-long : length statements ≡ g.agents
-    ran-long = ap length stated ∙ length-map-range_with_len _ 0 g.agents
+    pub ran_long : length statements ≡ g.agents
+    ran_long = ap length stated ∙ length-map-range_with_len _ 0 g.agents
 
-    worked-so : (i : ℕ) → i < count_in o → worked_in (statement_in (hours_of g.days) i held) ≡ worked o (after o requests) i
-    worked-so i agent = statements_step o opened_so (after o requests) sound_so held holds_so i agent
+    worked_so : (i : ℕ) → i < count_in o → worked_in (statement_in (hours_of g.days) i held) ≡ worked o (after o requests) i
+    worked_so i agent = statements_step o opened_so (after o requests) sound_so held holds_so i agent
 
-    balance-so : (i : ℕ) → i < count_in o → balance_at statements i ≡ balance_of o (after o requests) i
-    balance-so i agent =
+    balance_so : (i : ℕ) → i < count_in o → balance_at statements i ≡ balance_of o (after o requests) i
+    balance_so i agent =
         ap (λ sts. balance_at sts i) stated
         ∙ ap (λ st. st.balance) (get_or-map-range_with_len (λ k. statement_in (hours_of g.days) k held) 0 g.agents i i no_statement (omega (arith, ran_agents)) (omega arith))
-        ∙ ap (λ w. w.balance) (worked-so i agent)
+        ∙ ap (λ w. w.balance) (worked_so i agent)
 
-    pub ran-small : (i : ℕ) → i < length statements → nat_abs (balance_at statements i) ≤ 10000000000000000
-    ran-small i within =
-        let agent : i < count_in o = omega (arith, ran-long, ran_agents) in
-        omega (arith, ap nat_abs (balance-so i agent), balance_abs o opened_so (after o requests) sound_so i agent)
+    pub ran_small : (i : ℕ) → i < length statements → nat_abs (balance_at statements i) ≤ 10000000000000000
+    ran_small i within =
+        let agent : i < count_in o = omega (arith, ran_long, ran_agents) in
+        omega (arith, ap nat_abs (balance_so i agent), balance_abs o opened_so (after o requests) sound_so i agent)
 
-    statements-so : map worked_in statements ≡ map (worked o (after o requests)) (range_with_len 0 (count_in o))
-    statements-so =
+    statements_so : map worked_in statements ≡ map (worked o (after o requests)) (range_with_len 0 (count_in o))
+    statements_so =
         ap (map worked_in) (stated ∙ ap (λ n. map (λ i. statement_in (hours_of g.days) i held) (range_with_len 0 n)) (sym ran_agents))
         ∙ map-map _ _ (range_with_len 0 (count_in o))
-        ∙ map_counting_same (count_in o) _ _ worked-so
+        ∙ map_counting_same (count_in o) _ _ worked_so
 
-    balances-so : sum_to_ℤ (length statements) (balance_at statements) ≡ balances_after o (after o requests)
-    balances-so = ap (λ n. sum_to_ℤ n (balance_at statements)) (ran-long ∙ sym ran_agents) ∙ sum_to_ℤ_same (count_in o) _ _ balance-so
+    balances_so : sum_to_ℤ (length statements) (balance_at statements) ≡ balances_after o (after o requests)
+    balances_so = ap (λ n. sum_to_ℤ n (balance_at statements)) (ran_long ∙ sym ran_agents) ∙ sum_to_ℤ_same (count_in o) _ _ balance_so
 
-    residue-so : sum_to_ℤ (hours_of g.days) (λ hour. residue_told hour (pos 0) requests (map reply_of answers)) ≡ residue_after o (after o requests)
-    residue-so =
+    residue_so : sum_to_ℤ (hours_of g.days) (λ hour. residue_told hour (pos 0) requests (map reply_of answers)) ≡ residue_after o (after o requests)
+    residue_so =
         ap (λ told. sum_to_ℤ (hours_in o) (λ hour. residue_told hour (pos 0) requests told)) replies_so
         ∙ sum_to_ℤ_same (hours_in o) _ _ (λ hour within. run_residue o hour nothing_stands requests)
 
@@ -196,12 +196,12 @@ module _ (g : MonthFigures) (m : Memory) (calls : List Call) (answers : List Ans
         residue ≡ sum_to_ℤ (hours_of g.days) (λ hour. residue_told hour (pos 0) requests (map reply_of answers)) →
         Settled (opening_of f.days f.weekday m.agents) requests (map reply_of answers) (map worked_in statements) balances residue
     ran_settled f same balances residue total rest =
-        let together = total ∙ balances-so in
-        let left = rest ∙ residue-so in
+        let together = total ∙ balances_so in
+        let left = rest ∙ residue_so in
         subst (λ h. Settled (opening_of h.days h.weekday m.agents) requests (map reply_of answers) (map worked_in statements) balances residue) same
         (record {
           answers = replies_so;
-          stands = statements-so;
+          stands = statements_so;
           together = together;
           left = left;
           balanced = together ∙ balanced o opened_so (after o requests) sound_so ∙ ap neg_ℤ (sym left);

@@ -63,15 +63,15 @@ module _ (o : Opening) (hour : ℕ) (p : Posting) (faultless : Faultless o hour 
     long_kept : length p.lines ≡ count_in o
     long_kept = head_long (count_in o) p.price p.lines (sym own_none.1.0)
 
-    figures-measured : Measured p.price p.lines
-    figures-measured =
+    figures_measured : Measured p.price p.lines
+    figures_measured =
         measured (count_in o) p.price p.lines opened.few_agents (sym own_none.1.0) (sym own_none.1.1.0) (sym own_none.1.1.1.1.0)
 
     pub checked : Checked o p
     checked = record {
       long = long_kept;
-      measured = figures-measured;
-      within = λ i below. within_limits (line_at p.lines i) (figures-measured.each_within i (omega (arith, long_kept)));
+      measured = figures_measured;
+      within = λ i below. within_limits (line_at p.lines i) (figures_measured.each_within i (omega (arith, long_kept)));
       kept = λ i below.
           let test : ℕ → Bool = λ k. line_kept (count_in o) (role_at o.agents k) (line_at p.lines k) in
           ap test (omega arith) ∙ each_passed test 0 (length p.lines) (mapped_none _ _ (sym own_none.1.1.1.0)) i (omega (arith, long_kept));

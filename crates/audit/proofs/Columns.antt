@@ -17,9 +17,9 @@ module _ (hours hour : ℕ) (new : ℕ → Holding) (entries : List Holding) whe
       ∙ (λ t. cond (eqb (mod-mul-add i hours h within t) hour) (new (div-mul-add i hours h within t)) (old (entry_place hours i h)))
 
   module _ (accounts : List Holding) where
-    pub length-accountsWith : length (accounts_with hours hour new entries accounts) ≡ length accounts
-    length-accountsWith = length-map-range_with_len _ 0 (length accounts)
+    pub length-accounts_with : length (accounts_with hours hour new entries accounts) ≡ length accounts
+    length-accounts_with = length-map-range_with_len _ 0 (length accounts)
 
     -- an account loses the old entry and gains the new
-    pub account-with : (i : ℕ) → i < length accounts → get_or (accounts_with hours hour new entries accounts) i no_holding ≡ holding_joined (holding_joined (get_or accounts i no_holding) (holding_undone (get_or entries (entry_place hours i hour) no_holding))) (new i)
-    account-with i agent = get_or-map-range_with_len _ 0 (length accounts) i i no_holding agent (omega arith)
+    pub account_with : (i : ℕ) → i < length accounts → get_or (accounts_with hours hour new entries accounts) i no_holding ≡ holding_joined (holding_joined (get_or accounts i no_holding) (holding_undone (get_or entries (entry_place hours i hour) no_holding))) (new i)
+    account_with i agent = get_or-map-range_with_len _ 0 (length accounts) i i no_holding agent (omega arith)

@@ -48,11 +48,11 @@ module _ (o : Opening) (opened : Opened o) (s : Standing) (sound : Sound o s) (m
   entries_fit =
       all_from (energy_within 4000000) m.entries no_holding
       (λ k l.
-      let some-hours : 0 < hours_in o = omega arith in
+      let some_hours : 0 < hours_in o = omega arith in
       let i : ℕ = k / hours_in o in
       let hour : ℕ = k % hours_in o in
-      let agent : i < count_in o = div_below k (hours_in o) (count_in o) some-hours (omega arith) in
-      let within : hour < hours_in o = mod_below k (hours_in o) some-hours in
+      let agent : i < count_in o = div_below k (hours_in o) (count_in o) some_hours (omega arith) in
+      let within : hour < hours_in o = mod_below k (hours_in o) some_hours in
       ap (energy_within 4000000) (ap (λ n. get_or m.entries n no_holding) (sym (div-add-mod' k (hours_in o))) ∙ holds.entries i hour agent within)
       ∙ energy_fits 4000000 _ _ (injected_le o opened s sound i hour agent within) (withdrawn_le o opened s sound i hour agent within))
 

@@ -12,13 +12,13 @@ use Rattle.audit.specs.Requests.{Opening, count_in, hours_in, Posting}
 use Rattle.audit.specs.Standing.{Standing, nothing_stands, standing_with}
 use Rattle.audit.specs.Worked.{figures_from}
 use Rattle.audit.proofs.Accounts.{account_changed}
-use Rattle.audit.proofs.Columns.{entry_with, length-entries_with, account-with, length-accountsWith}
+use Rattle.audit.proofs.Columns.{entry_with, length-entries_with, account_with, length-accounts_with}
 use Rattle.audit.proofs.Holds.{Holds, mark_for}
 use Rattle.book.proofs.Sums.{sum_to_const_zero, sum_to_ℤ_const_zero}
 
 -- a list with one place changed
-get_d_set : {X : Type 0} (xs : List X) (k j : ℕ) (x d : X) → k < length xs → get_or (set xs k x) j d ≡ cond (eqb j k) x (get_or xs j d)
-get_d_set xs k j x d within =
+get_or-set : {X : Type 0} (xs : List X) (k j : ℕ) (x d : X) → k < length xs → get_or (set xs k x) j d ≡ cond (eqb j k) x (get_or xs j d)
+get_or-set xs k j x d within =
     ⊎_elim
     (λ (here : j ≡ k). ap (λ n. get_or (set xs k x) n d) here ∙ get_or-set_same xs k x d within ∙ sym (cond-true (eqb j k) x _ (eq-eqb j k here)))
     (λ (apart : j ≡ k → ⊥). get_or-set_other xs k j x d apart ∙ sym (cond-false (eqb j k) x _ (ne_eqb j k apart)))
@@ -40,14 +40,14 @@ module _ (o : Opening) (s : Standing) (m : Memory) (holds : Holds o s m) (hour :
   pub holds_rewritten : (mark : ℕ) (new : ℕ → Holding) → mark ≡ mark_for p → ((i : ℕ) → i < count_in o → new i ≡ entry_of (figures_from o i p)) → Holds o (standing_with hour p s) (rewritten (hours_in o) hour mark new m)
   holds_rewritten mark new marked written = record {
     agents = holds.agents;
-    accounts_long = length-accountsWith (hours_in o) hour new m.entries m.accounts ∙ holds.accounts_long;
+    accounts_long = length-accounts_with (hours_in o) hour new m.entries m.accounts ∙ holds.accounts_long;
     contracts_long = holds.contracts_long;
     marks_long = length-set m.marks hour mark ∙ holds.marks_long;
     entries_long = length-entries_with (hours_in o) hour new m.entries ∙ holds.entries_long;
-    marks = λ h l. get_d_set m.marks hour h mark 0 (omega arith) ∙ picked mark_for (eqb h hour) _ _ _ _ marked (holds.marks h l);
+    marks = λ h l. get_or-set m.marks hour h mark 0 (omega arith) ∙ picked mark_for (eqb h hour) _ _ _ _ marked (holds.marks h l);
     entries = λ i h agent l. entry_with (hours_in o) hour new m.entries (count_in o) i h holds.entries_long agent l ∙ picked (λ q. entry_of (figures_from o i q)) (eqb h hour) _ _ _ _ (written i agent) (holds.entries i h agent l);
     accounts = λ i agent.
-        account-with (hours_in o) hour new m.entries m.accounts i (omega arith)
+        account_with (hours_in o) hour new m.entries m.accounts i (omega arith)
         ∙ (λ t. holding_joined (holding_joined (holds.accounts i agent t) (holding_undone (holds.entries i hour agent within t))) ((written i agent ∙ ap (λ q. entry_of (figures_from o i q)) (sym here)) t))
         ∙ account_changed o s (standing_with hour p s) hour within elsewhere i;
   }

@@ -51,56 +51,56 @@ module _ (o : Opening) (opened : Opened o) (s : Standing) (sound : Sound o s) (m
   -- ---- posting
 
   module _ (hour : ℕ) (p : Posting) where
-    post-fault : post_fault (figures_in o) hour p.price p.lines m ≡ fault_met o s (posting hour p)
-    post-fault =
+    post_fault_lem : post_fault (figures_in o) hour p.price p.lines m ≡ fault_met o s (posting hour p)
+    post_fault_lem =
         past_memory o opened s sound m holds _
         ∙ (λ t. first_met (of_posting (line_fault (count_in o) (hours_in o) (holds.agents t) hour p.price p.lines) ∷ met_if (uncarried (holds.agents t) p.price p.lines) NoCarrier ∷ []))
 
-    post-step : Stepped (posting hour p) (posted (figures_in o) hour p.price p.lines m)
-    post-step =
-        call_step (posting hour p) (post_fault (figures_in o) hour p.price p.lines m) _ post-fault
+    post_step : Stepped (posting hour p) (posted (figures_in o) hour p.price p.lines m)
+    post_step =
+        call_step (posting hour p) (post_fault (figures_in o) hour p.price p.lines m) _ post_fault_lem
         (λ none. holds_rewritten o s m holds hour (hour_within o hour p none) (Some p) 1 _ refl (λ i agent. ap (λ agents. entry_of (hour_of agents p.price p.lines i)) holds.agents))
 
   -- ---- withdrawal
 
   module _ (hour : ℕ) where
     -- within the month the mark tells whether the hour is free
-    withdraw-fault : withdraw_fault (figures_in o) hour m ≡ fault_met o s (withdrawal hour)
-    withdraw-fault =
+    withdraw_fault_lem : withdraw_fault (figures_in o) hour m ≡ fault_met o s (withdrawal hour)
+    withdraw_fault_lem =
         past_memory o opened s sound m holds _
         ∙ ⊎_elim
         (λ (within : hour < hours_in o). ap (λ free. first_met (of_posting (hour_fault (hours_in o) hour) ∷ met_if free (FreeHour hour) ∷ [])) (ap (λ mark. eqb mark 0) (holds.marks hour within) ∙ free_mark (s.posted hour)))
         (λ (outside : hours_in o ≤ hour). rw (le-leb (hours_in o) hour outside))
         (cases_lt hour (hours_in o))
 
-    withdraw-hour : fault_met o s (withdrawal hour) ≡ None → hour < hours_in o
-    withdraw-hour none = leb-false (hours_in o) hour (unmet _ _ (sym (of_posting_none _ (first_met_none (of_posting (hour_fault (hours_in o) hour) ∷ met_if (not (is_some (s.posted hour))) (FreeHour hour) ∷ []) none).0)))
+    withdraw_hour : fault_met o s (withdrawal hour) ≡ None → hour < hours_in o
+    withdraw_hour none = leb-false (hours_in o) hour (unmet _ _ (sym (of_posting_none _ (first_met_none (of_posting (hour_fault (hours_in o) hour) ∷ met_if (not (is_some (s.posted hour))) (FreeHour hour) ∷ []) none).0)))
 
-    withdraw-step : Stepped (withdrawal hour) (withdrawn (figures_in o) hour m)
-    withdraw-step =
-        call_step (withdrawal hour) (withdraw_fault (figures_in o) hour m) _ withdraw-fault
-        (λ none. holds_rewritten o s m holds hour (withdraw-hour none) None 0 _ refl (λ i agent. refl))
+    withdraw_step : Stepped (withdrawal hour) (withdrawn (figures_in o) hour m)
+    withdraw_step =
+        call_step (withdrawal hour) (withdraw_fault (figures_in o) hour m) _ withdraw_fault_lem
+        (λ none. holds_rewritten o s m holds hour (withdraw_hour none) None 0 _ refl (λ i agent. refl))
 
   -- ---- statement
 
   module _ (agent : ℕ) where
-    statement-fault : statement_fault (figures_in o) agent m ≡ fault_met o s (statement agent)
-    statement-fault =
+    statement_fault_lem : statement_fault (figures_in o) agent m ≡ fault_met o s (statement agent)
+    statement_fault_lem =
         past_memory o opened s sound m holds _
         ∙ first_met_one (met_if (eqb agent 0 || ltb (count_in o) agent) OutsideBook)
 
     -- an agent that is met with no fault is in the book
-    statement-agent : fault_met o s (statement agent) ≡ None → agent - 1 < count_in o
-    statement-agent none =
+    statement_agent : fault_met o s (statement agent) ≡ None → agent - 1 < count_in o
+    statement_agent none =
         let inside = or_parts (eqb agent 0) (ltb (count_in o) agent) (unmet _ _ (sym none)) in
         let some : agent ≡ 0 → ⊥ = eqb-false agent 0 inside.0 in
         let few : agent ≤ count_in o = ltb-false (count_in o) agent inside.1 in
         omega arith
 
-    state-step : reply_of (stated_as (stated (figures_in o) agent m)) ≡ reply o s (statement agent)
-    state-step =
-        ap (λ fault. reply_of (stated_as (answer_of (statement_in (hours_in o) (agent - 1) m) fault))) statement-fault
-        ∙ told (fault_met o s (statement agent)) (λ none. statements_step o opened s sound m holds (agent - 1) (statement-agent none))
+    state_step : reply_of (stated_as (stated (figures_in o) agent m)) ≡ reply o s (statement agent)
+    state_step =
+        ap (λ fault. reply_of (stated_as (answer_of (statement_in (hours_in o) (agent - 1) m) fault))) statement_fault_lem
+        ∙ told (fault_met o s (statement agent)) (λ none. statements_step o opened s sound m holds (agent - 1) (statement_agent none))
       where
         told : (fault : Option BookFault) → (fault ≡ None → worked_in (statement_in (hours_in o) (agent - 1) m) ≡ worked o s (agent - 1)) → reply_of (stated_as (answer_of (statement_in (hours_in o) (agent - 1) m) fault)) ≡ reply_to o s (statement agent) fault
         told None same = ap Reply.stated (same refl)
@@ -109,21 +109,21 @@ module _ (o : Opening) (opened : Opened o) (s : Standing) (sound : Sound o s) (m
   -- ---- any call
 
   pub heard_reply : (c : Call) → reply_of (heard (figures_in o) c m).answer ≡ reply o s (request_of c)
-  heard_reply (Post p) = ap (λ answer. reply_of (done_as answer)) (post-step p.hour _).0 ∙ post-told (fault_met o s (request_of (Post p)))
+  heard_reply (Post p) = ap (λ answer. reply_of (done_as answer)) (post_step p.hour _).0 ∙ post_told (fault_met o s (request_of (Post p)))
     where
-      post-told : (fault : Option BookFault) → reply_of (done_as (answer_of tt fault)) ≡ reply_to o s (request_of (Post p)) fault
-      post-told None = refl
-      post-told (Some fault) = refl
-  heard_reply (Withdraw hour) = ap (λ answer. reply_of (done_as answer)) (withdraw-step hour).0 ∙ withdraw-told (fault_met o s (withdrawal hour))
+      post_told : (fault : Option BookFault) → reply_of (done_as (answer_of tt fault)) ≡ reply_to o s (request_of (Post p)) fault
+      post_told None = refl
+      post_told (Some fault) = refl
+  heard_reply (Withdraw hour) = ap (λ answer. reply_of (done_as answer)) (withdraw_step hour).0 ∙ withdraw_told (fault_met o s (withdrawal hour))
     where
-      withdraw-told : (fault : Option BookFault) → reply_of (done_as (answer_of tt fault)) ≡ reply_to o s (withdrawal hour) fault
-      withdraw-told None = refl
-      withdraw-told (Some fault) = refl
-  heard_reply (Provisional agent) = state-step agent
+      withdraw_told : (fault : Option BookFault) → reply_of (done_as (answer_of tt fault)) ≡ reply_to o s (withdrawal hour) fault
+      withdraw_told None = refl
+      withdraw_told (Some fault) = refl
+  heard_reply (Provisional agent) = state_step agent
 
   pub heard_holds : (c : Call) → Holds o (next o s (request_of c)) (heard (figures_in o) c m).memory
-  heard_holds (Post p) = (post-step p.hour _).1
-  heard_holds (Withdraw hour) = (withdraw-step hour).1
+  heard_holds (Post p) = (post_step p.hour _).1
+  heard_holds (Withdraw hour) = (withdraw_step hour).1
   heard_holds (Provisional agent) = unchanged (fault_met o s (statement agent))
     where
       unchanged : (fault : Option BookFault) → Holds o (cond (is_some fault) s s) m

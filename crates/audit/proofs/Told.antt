@@ -22,27 +22,27 @@ module _ (hour : ℕ) (calls : List Call) (answers : List Answer) where
 
   -- the call at hand, and its answer
   module _ (i : ℕ) (residue : ℤ) (c : Call) (a : Answer) (within : i < length calls) (place : i < length answers) (is : c ≡ get_or calls i c) (was : a ≡ get_or answers i a) (so : Left i residue) where
-    calls-left : drop i calls ≡ c ∷ drop (i + 1) calls
-    calls-left = drop_more calls i c within ∙ ap (λ call. call ∷ drop (i + 1) calls) (sym is)
+    calls_left : drop i calls ≡ c ∷ drop (i + 1) calls
+    calls_left = drop_more calls i c within ∙ ap (λ call. call ∷ drop (i + 1) calls) (sym is)
 
-    answers-left : drop i answers ≡ a ∷ drop (i + 1) answers
-    answers-left = drop_more answers i a place ∙ ap (λ answer. answer ∷ drop (i + 1) answers) (sym was)
+    answers_left : drop i answers ≡ a ∷ drop (i + 1) answers
+    answers_left = drop_more answers i a place ∙ ap (λ answer. answer ∷ drop (i + 1) answers) (sym was)
 
-    measured-left : AllMeasured (map request_of (c ∷ drop (i + 1) calls)) (map reply_of (a ∷ drop (i + 1) answers))
-    measured-left =
-        subst (λ left. AllMeasured (map request_of left) (map reply_of (a ∷ drop (i + 1) answers))) calls-left
-        (subst (λ left. AllMeasured (map request_of (drop i calls)) (map reply_of left)) answers-left so.measured)
+    measured_left : AllMeasured (map request_of (c ∷ drop (i + 1) calls)) (map reply_of (a ∷ drop (i + 1) answers))
+    measured_left =
+        subst (λ left. AllMeasured (map request_of left) (map reply_of (a ∷ drop (i + 1) answers))) calls_left
+        (subst (λ left. AllMeasured (map request_of (drop i calls)) (map reply_of left)) answers_left so.measured)
 
-    pub left-postable : is_accepted (reply_of a) ≡ true → Postable (request_of c)
-    left-postable = measured-left.0
+    pub left_postable : is_accepted (reply_of a) ≡ true → Postable (request_of c)
+    left_postable = measured_left.0
 
-    pub left-more : (residue' : ℤ) → residue' ≡ cond (is_accepted (reply_of a)) (residue_left hour residue (request_of c)) residue → nat_abs residue' ≤ 7680000000000 → Left (i + 1) residue'
-    left-more residue' left small = record {
+    pub left_more : (residue' : ℤ) → residue' ≡ cond (is_accepted (reply_of a)) (residue_left hour residue (request_of c)) residue → nat_abs residue' ≤ 7680000000000 → Left (i + 1) residue'
+    left_more residue' left small = record {
       told =
           ap (λ z. told_from (i + 1) z) left
-          ∙ (λ t. residue_told hour residue (map request_of (sym calls-left t)) (map reply_of (sym answers-left t)))
+          ∙ (λ t. residue_told hour residue (map request_of (sym calls_left t)) (map reply_of (sym answers_left t)))
           ∙ so.told;
-      measured = measured-left.1;
+      measured = measured_left.1;
       bound = small;
     }
 

@@ -9,20 +9,20 @@ use book::{Account, Agent, BookFault, Entry, OpenMonth, Statement, post, provisi
 use forms::Contract;
 
 /// What is told of a call that gives nothing back.
-fn told(res: Result<(), BookFault>) -> Answer
-    ensures { result ≡ done_as res }
+fn told(outcome: Result<(), BookFault>) -> Answer
+    ensures { result ≡ done_as outcome }
 {
-    match res {
+    match outcome {
         Ok(()) => Answer::Accepted,
         Err(fault) => Answer::Refused(fault),
     }
 }
 
 /// What is told of a call that gives a statement.
-fn stated(res: Result<Statement, BookFault>) -> Answer
-    ensures { result ≡ stated_as res }
+fn stated(outcome: Result<Statement, BookFault>) -> Answer
+    ensures { result ≡ stated_as outcome }
 {
-    match res {
+    match outcome {
         Ok(statement) => Answer::Stated(statement),
         Err(fault) => Answer::Refused(fault),
     }

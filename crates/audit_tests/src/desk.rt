@@ -145,8 +145,8 @@ fn settle(
 }
 
 /// What an audit with these statements came to.
-fn came_to(res: Result<Totals, BookFault>, statements: &[Statement; 3]) -> Outcome {
-    let (fault, balances, residue) = match res {
+fn came_to(settled: Result<Totals, BookFault>, statements: &[Statement; 3]) -> Outcome {
+    let (fault, balances, residue) = match settled {
         Ok(totals) => (DONE, totals.balances, totals.residue),
         Err(fault) => (told_of(&Answer::Refused(fault)), 0, 0),
     };

@@ -62,9 +62,9 @@ module _ (hours hour : ℕ) (within : hour < hours) (fresh before : List Holding
   pub rewritten_old : (i : ℕ) (entries : List Holding) → entry_place hours i hour < length before → Rewritten i entries →
       get_or entries (entry_place hours i hour) no_holding ≡ get_or before (entry_place hours i hour) no_holding
   rewritten_old i entries at written =
-      let at-hand = ap (λ n. ltb n i) (div-mul-add i hours hour within) ∙ le-ltb i i (omega arith) in
+      let at_hand = ap (λ n. ltb n i) (div-mul-add i hours hour within) ∙ le-ltb i i (omega arith) in
       written (entry_place hours i hour) at
-      ∙ ap (λ b. cond b (get_or fresh (entry_place hours i hour / hours) no_holding) (get_or before (entry_place hours i hour) no_holding)) (and_right _ _ at-hand)
+      ∙ ap (λ b. cond b (get_or fresh (entry_place hours i hour / hours) no_holding) (get_or before (entry_place hours i hour) no_holding)) (and_right _ _ at_hand)
 
   pub rewritten_all : (n : ℕ) (entries : List Holding) → length entries ≡ length before → length before ≡ n * hours → Rewritten n entries →
       entries ≡ entries_with hours hour (λ i. get_or fresh i no_holding) before

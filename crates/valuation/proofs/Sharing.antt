@@ -58,8 +58,8 @@ module _ (points total : ℕ) (some : 0 < total) where
       sym (add-mul (part_at points total before weight) (points * before / total) total) ∙ ap (λ x. x * total) (part_at_step before weight) in
       let upper = div-add-mod' (points * (before + weight)) total in
       let lower = div-add-mod' (points * before) total in
-      let upper-rest = mod-lt (points * (before + weight)) some in
-      let lower-rest = mod-lt (points * before) some in
+      let upper_rest = mod-lt (points * (before + weight)) some in
+      let lower_rest = mod-lt (points * before) some in
       let spread = mul-add points before weight in
       (omega arith, omega arith)
 

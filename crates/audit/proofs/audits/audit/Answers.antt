@@ -10,7 +10,7 @@ use Rattle.audit.specs.Audits.{lent_of}
 use Rattle.audit.specs.Reading.{request_of, reply_of}
 use Rattle.audit.specs.Runs.{memory_after}
 use Rattle.audit.specs.Told.{residue_told}
-use Rattle.audit.proofs.Audited.{audit_opening, open_accepted, open_refused, Ran, ran_from, ran_few, ran_days, ran_agents, ran_sized, ran_stored, ran_measured, ran-long, ran-small, ran_settled}
+use Rattle.audit.proofs.Audited.{audit_opening, open_accepted, open_refused, Ran, ran_from, ran_few, ran_days, ran_agents, ran_sized, ran_stored, ran_measured, ran_long, ran_small, ran_settled}
 use Rattle.audit.proofs.audits.audit.Goals as goal
 use Rattle.audit.proofs.audits.audit.Goals.{After-replay}
 
@@ -52,8 +52,8 @@ pub balances_together-requires : goal.balances_together-requires
 balances_together-requires c =
     let r = ran (goal.at.balances_together-requires c).After-replay in
     record {
-      few = omega (arith, ran-long _ _ _ _ _ r _ c.fill_statements.ensures, ran_few _ _ _ _ _ r);
-      small = ran-small _ _ _ _ _ r _ c.fill_statements.ensures;
+      few = omega (arith, ran_long _ _ _ _ _ r _ c.fill_statements.ensures, ran_few _ _ _ _ _ r);
+      small = ran_small _ _ _ _ _ r _ c.fill_statements.ensures;
     }
 
 pub standing_residue-requires : goal.standing_residue-requires

@@ -23,13 +23,13 @@ loop-line-preserved c = (
 pub returns : goal.returns
 returns c =
     let all : c.loop-line.line-index ≡ length c.args.lines.now = omega arith in
-    let withdrawn-small : c.loop-line.withdrawn ≤ 7680000000000 = omega (arith, c.loop-line.invariant.1, c.requires.few_lines) in
-    let injected-small : c.loop-line.injected ≤ 7680000000000 = omega (arith, c.loop-line.invariant.3, c.requires.few_lines) in
-    let is = difference c.loop-line.withdrawn c.loop-line.injected withdrawn-small injected-small in
+    let withdrawn_small : c.loop-line.withdrawn ≤ 7680000000000 = omega (arith, c.loop-line.invariant.1, c.requires.few_lines) in
+    let injected_small : c.loop-line.injected ≤ 7680000000000 = omega (arith, c.loop-line.invariant.3, c.requires.few_lines) in
+    let is = difference c.loop-line.withdrawn c.loop-line.injected withdrawn_small injected_small in
     record {
       value =
           is
           ∙ (λ t. pos (c.loop-line.invariant.0 t) -ℤ pos (c.loop-line.invariant.2 t))
           ∙ ap (λ n. pos (sum_to n (λ j. withdrawn_amount c.args.price (line_at c.args.lines.now j))) -ℤ pos (sum_to n (λ j. injected_amount c.args.price (line_at c.args.lines.now j)))) all;
-      bound = omega (arith, ap nat_abs is, difference_abs c.loop-line.withdrawn c.loop-line.injected withdrawn-small injected-small);
+      bound = omega (arith, ap nat_abs is, difference_abs c.loop-line.withdrawn c.loop-line.injected withdrawn_small injected_small);
     }

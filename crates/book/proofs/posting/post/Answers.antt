@@ -18,8 +18,8 @@ returns c =
     let m = memory_of c.args.agents.now c.args.accounts.now c.args.contracts.now c.args.marks.now c.args.entries.now in
     let stamp = c.in_ok-stamp.ensures.stamp in
     let new : ℕ → Holding = λ i. entry_of (hour_of c.args.agents.now c.args.price c.args.lines.now i) in
-    let entries-are = c.write_posting.ensures.entries ∙ (λ k. entries_with (hours_of (stamp.1 k)) (stamp.0 k) new c.args.entries.now) in
-    let accounts-are = c.write_posting.ensures.accounts ∙ (λ k. accounts_with (hours_of (stamp.1 k)) (stamp.0 k) new c.args.entries.now c.args.accounts.now) in
+    let entries_are = c.write_posting.ensures.entries ∙ (λ k. entries_with (hours_of (stamp.1 k)) (stamp.0 k) new c.args.entries.now) in
+    let accounts_are = c.write_posting.ensures.accounts ∙ (λ k. accounts_with (hours_of (stamp.1 k)) (stamp.0 k) new c.args.entries.now c.args.accounts.now) in
     post_accepted (figures_of c.args.month.now) m c.args.hour c.args.price c.args.lines.now _
     c.in_ok-check_memory.ensures c.in_ok-stamp.ensures.fault c.in_ok-check_carriers.ensures
-    (λ k. memory_of c.args.agents.now (accounts-are k) c.args.contracts.now (set c.args.marks.now c.args.hour 1) (entries-are k))
+    (λ k. memory_of c.args.agents.now (accounts_are k) c.args.contracts.now (set c.args.marks.now c.args.hour 1) (entries_are k))

@@ -33,14 +33,14 @@ returns c =
     let neutral : (i : ℕ) → i < n → fresh i ≡ no_holding =
     λ i below. front_replicate n 64 i c.neutral-nothing.result below (subst (λ k. k ≤ 64) (sym count) c.args.month.now.few_agents) ∙ c.neutral-nothing.ensures in
     let long : length c.args.entries.now ≡ n * hours = entries_long ∙ ap (λ days. n * hours_of days) (sym is.1) in
-    let entries-are =
+    let entries_are =
     c.replace_hour.ensures.entries
     ∙ entries_with_same hours stamp.hour n stamp.within fresh (λ i. no_holding) neutral c.args.entries.now long
     ∙ (λ k. entries_with (hours_of (is.1 k)) (is.0 k) (λ i. no_holding) c.args.entries.now) in
-    let accounts-are =
+    let accounts_are =
     c.replace_hour.ensures.accounts
     ∙ accounts_with_same hours stamp.hour n stamp.within fresh (λ i. no_holding) neutral c.args.entries.now c.args.accounts.now accounts_long
     ∙ (λ k. accounts_with (hours_of (is.1 k)) (is.0 k) (λ i. no_holding) c.args.entries.now c.args.accounts.now) in
     withdraw_accepted (figures_of c.args.month.now) m c.args.hour _
     c.in_ok-check_memory.ensures c.in_ok-stamp.ensures.fault (ne_eqb _ _ c.if-marks-hour-eq-FREE.false)
-    (λ k. memory_of c.args.agents.now (accounts-are k) c.args.contracts.now (set c.args.marks.now c.args.hour 0) (entries-are k))
+    (λ k. memory_of c.args.agents.now (accounts_are k) c.args.contracts.now (set c.args.marks.now c.args.hour 0) (entries_are k))

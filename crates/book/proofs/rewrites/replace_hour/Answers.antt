@@ -30,16 +30,16 @@ loop-i-preserved c =
     omega (arith, c.requires.entries_long, place_within hours hour (length fresh) i stamp.within c.loop-i-test.true) in
     let here : i < length old = omega (arith, c.requires.accounts_long) in
     let new_is : c.index-fresh-i.result ≡ get_or fresh i no_holding = get_or_read fresh i c.index-fresh-i.result c.loop-i-test.true c.index-fresh-i.is no_holding in
-    let old-is : c.index-entries-at.result ≡ get_or before (entry_place hours i hour) no_holding =
+    let old_is : c.index-entries-at.result ≡ get_or before (entry_place hours i hour) no_holding =
     get_or_read c.loop-i.entries c.place-at.result c.index-entries-at.result (omega (arith, c.place-at.ensures, c.loop-i.auto.entries)) c.index-entries-at.is no_holding
     ∙ ap (λ n. get_or c.loop-i.entries n no_holding) c.place-at.ensures
     ∙ rewritten_old hours hour stamp.within fresh before i c.loop-i.entries at c.loop-i.invariant.0 in
-    let account-is : c.index-accounts-i.result ≡ get_or old i no_holding =
+    let account_is : c.index-accounts-i.result ≡ get_or old i no_holding =
     get_or_read c.loop-i.accounts i c.index-accounts-i.result (omega (arith, c.loop-i.auto.accounts)) c.index-accounts-i.is no_holding
     ∙ settled_old hours hour stamp.within fresh before old i c.loop-i.accounts here c.loop-i.invariant.1 in
     let updated : c.replace_entry.new.account ≡ account_after hours hour stamp.within fresh before old i =
     c.replace_entry.ensures.account
-    ∙ (λ k. holding_joined (holding_joined ((sym c.index-accounts-i.is ∙ account-is) k) (holding_undone ((sym c.index-entries-at.is ∙ old-is) k))) (new_is k)) in (
+    ∙ (λ k. holding_joined (holding_joined ((sym c.index-accounts-i.is ∙ account_is) k) (holding_undone ((sym c.index-entries-at.is ∙ old_is) k))) (new_is k)) in (
       subst (λ (x : ℕ × Holding). Rewritten hours hour stamp.within fresh before (i + 1) (set c.loop-i.entries x.0 x.1)) (λ k. (sym c.place-at.ensures k, sym (c.replace_entry.ensures.entry ∙ new_is) k))
           (rewritten_more hours hour stamp.within fresh before i c.loop-i.entries c.loop-i.auto.entries at c.loop-i.invariant.0),
       subst (λ x. Settled hours hour stamp.within fresh before old (i + 1) (set c.loop-i.accounts i x)) (sym updated)

@@ -37,10 +37,10 @@ returns c =
     let i = c.args.agent - 1 in
     let day = c.args.day - 1 in
     let is = c.figures-figures.ensures in
-    let agents-most : c.args.agent ≤ month.agents = omega (arith, ap (λ (f : MonthFigures). f.agents) is, c.if-agent-figures.false) in
-    let days-most : c.args.day ≤ month.days = omega (arith, ap (λ (f : MonthFigures). f.days) is, c.if-day-figures.false) in
+    let agents_most : c.args.agent ≤ month.agents = omega (arith, ap (λ (f : MonthFigures). f.agents) is, c.if-agent-figures.false) in
+    let days_most : c.args.day ≤ month.days = omega (arith, ap (λ (f : MonthFigures). f.days) is, c.if-day-figures.false) in
     let known : met_if ((eqb c.args.agent 0 || ltb month.agents c.args.agent) || (eqb c.args.day 0 || ltb month.days c.args.day)) OutsideBook ≡ None =
     ap (λ b. met_if b OutsideBook)
-    (or_from _ _ (or_from _ _ (ne_eqb _ _ c.if-agent-eq0.false) (le-ltb _ _ agents-most)) (or_from _ _ (ne_eqb _ _ c.if-day-eq0.false) (le-ltb _ _ days-most))) in
+    (or_from _ _ (or_from _ _ (ne_eqb _ _ c.if-agent-eq0.false) (le-ltb _ _ agents_most)) (or_from _ _ (ne_eqb _ _ c.if-day-eq0.false) (le-ltb _ _ days_most))) in
     look_accepted (figures_of month) m _ (day_sum (24 * month.days) i day c.args.entries.now) c.day_from.result c.in_ok-check_memory.ensures known
     (c.day_from.ensures ∙ ap (λ (f : MonthFigures). day_sum (24 * f.days) i day c.args.entries.now) is)

@@ -43,9 +43,9 @@ returns c =
     let inside : i < length c.args.accounts.now = omega (arith, accounts_sized (figures_of month) m none, c.if-agent-eq0.false, most) in
     let known : met_if (eqb c.args.agent 0 || ltb month.agents c.args.agent) OutsideBook ≡ None =
     ap (λ b. met_if b OutsideBook) (or_from _ _ (ne_eqb _ _ c.if-agent-eq0.false) (le-ltb _ _ most)) in
-    let account-is = get_or_read c.args.accounts.now i c.index-accounts-index.result inside c.index-accounts-index.is no_holding in
-    let peak-is =
+    let account_is = get_or_read c.args.accounts.now i c.index-accounts-index.result inside c.index-accounts-index.is no_holding in
+    let peak_is =
     c.month_peak-peak.ensures
     ∙ ap (λ (f : MonthFigures). peak_over (24 * f.days) (λ hour. get_or c.args.entries.now (i * (24 * f.days) + hour) no_holding)) is in
     look_accepted (figures_of month) m _ (statement_in (24 * month.days) i m) c.statement.result none known
-    (c.statement.ensures ∙ (λ k. statement_of (account-is k) (peak-is k)))
+    (c.statement.ensures ∙ (λ k. statement_of (account_is k) (peak_is k)))
