@@ -3,9 +3,11 @@
 
 usage: python3 tools/respell.py    at the top of the repository, right after the toolchain's own script
 
-Read are the names that specs/ and proofs/ declare: definitions, lemmas, records' fields, and what a `let` binds. Types keep their
-camel case, names that the checker makes (goals, steps, invariants) and names of src/ are left alone, and so is what stands in a
-string. A name that would fall together with another one stops the script before it writes. Run again, it finds nothing."""
+Read are the names that specs/ and proofs/ declare: definitions, lemmas, records' fields, and what a `let` binds. They are turned by
+their text wherever they stand but in a string, and so is any other word in camel case that begins small, which no name of src/ does.
+Types keep their camel case, and names that the checker makes (goals, steps, invariants) their form, unless one of ours has the same
+text. A lemma that would have a definition's name gets `_lem`; any other two names that would fall together stop the script before it
+writes. Run again, it finds nothing."""
 
 import os
 import re
