@@ -24,7 +24,7 @@ impl Weekday {
     }
 
     /// The weekday with this number, which is at most 6.
-    pub(crate) fn at_number(number: u32) -> Weekday
+    pub fn at_number(number: u32) -> Weekday
         ensures { result ≡ weekday_at number }
     {
         match number {

@@ -1,0 +1,70 @@
+-- Points put on a contract line: none, several, and on the entry of a posting's own lines. Assumes nothing.
+use Rattle.std.proofs.Common.{◌≡◌, ℕ, ◌+◌, ◌-◌, ◌<◌, ◌≤◌, Bool, true, false, cond, eqb, List, [], ◌∷◌, ◌++◌, length, get_or, take, set, ℤ, pos, ◌+ℤ◌, sym, refl, ap, ◌∙◌, inl, inr, arith}
+use lib.IntN.{+ℤ_idl, +ℤ_idr, +ℤ_assoc}
+use Rattle.std.proofs.lemmas.List.{get_or-set_same, get_or-set_other, take_more}
+use Rattle.std.proofs.lemmas.Bool.{cases_eq, cond-true, cond-false, eq-eqb, ne_eqb}
+use Rattle.tally.specs.Money.{money_of, no_money, money_joined}
+use Rattle.tally.specs.Energy.{no_energy, energy_joined}
+use Rattle.tally.specs.MoneyLaws.{money_lawful, money_of_joined}
+use Rattle.tally.specs.EnergyLaws.{energy_lawful}
+use Rattle.tally.proofs.PairLaws.{pair_same}
+use Rattle.settlement.specs.Holdings.{Holding, no_holding, with_points, entry_of}
+use Rattle.settlement.specs.Hour.{Figures}
+use Rattle.settlement.specs.Sums.{sum_of}
+
+-- no points change nothing
+pub points_none : (h : Holding) → with_points (pos 0) h ≡ h
+points_none h =
+    pair_same _ _
+    (money_lawful.commutative h.first no_money ∙ money_lawful.identity h.first)
+    (energy_lawful.commutative h.second no_energy ∙ energy_lawful.identity h.second)
+
+-- points one after another are points together
+pub points_more : (a b : ℤ) (h : Holding) → with_points b (with_points a h) ≡ with_points (a +ℤ b) h
+points_more a b h =
+    pair_same _ _
+    (money_lawful.associative h.first (money_of (pos 0) a (pos 0) (pos 0)) (money_of (pos 0) b (pos 0) (pos 0)) ∙ ap (money_joined h.first) (money_of_joined (pos 0) a (pos 0) (pos 0) (pos 0) b (pos 0) (pos 0)))
+    (energy_lawful.associative h.second no_energy no_energy ∙ ap (energy_joined h.second) (energy_lawful.identity no_energy))
+
+-- points that are put on only where a test holds
+pub points_if : (test : Bool) (points : ℤ) (h : Holding) → cond test (with_points points h) h ≡ with_points (cond test points (pos 0)) h
+points_if true points h = refl
+points_if false points h = sym (points_none h)
+
+-- figures with another contract line
+abbrev pub with_contract : ℤ → Figures → Figures
+with_contract points f = record { market = f.market; contract = points; overcost = f.overcost; injected = f.injected; withdrawn = f.withdrawn }
+
+-- the entry of figures without contracts, with points, is that of the figures with them
+pub points_entry : (points : ℤ) (f : Figures) → with_points points (entry_of (with_contract (pos 0) f)) ≡ entry_of (with_contract points f)
+points_entry points f =
+    pair_same _ _
+    (money_of_joined f.market (pos 0) f.overcost (pos 0) (pos 0) points (pos 0) (pos 0)
+    ∙ (λ t. money_of (+ℤ_idr f.market t) (+ℤ_idl points t) (+ℤ_idr f.overcost t) (pos 0)))
+    (energy_lawful.commutative (entry_of f).second no_energy ∙ energy_lawful.identity (entry_of f).second)
+
+-- points put on the entry of the agent with a number
+pub points_placed : (fresh : List Holding) (number : ℕ) (points : ℤ) (i : ℕ) → 1 ≤ number → number ≤ length fresh → i < length fresh →
+    get_or (set fresh (number - 1) (with_points points (get_or fresh (number - 1) no_holding))) i no_holding ≡ with_points (cond (eqb number (i + 1)) points (pos 0)) (get_or fresh i no_holding)
+points_placed fresh number points i some known within = elim (cases_eq number (i + 1)) [
+  | inl here ↦
+      let place : number - 1 ≡ i = omega arith in
+      ap (λ k. get_or (set fresh k (with_points points (get_or fresh k no_holding))) i no_holding) place
+      ∙ get_or-set_same fresh i (with_points points (get_or fresh i no_holding)) no_holding within
+      ∙ ap (λ z. with_points z (get_or fresh i no_holding)) (sym (cond-true (eqb number (i + 1)) points (pos 0) (eq-eqb number (i + 1) here)))
+  | inr apart ↦
+      let other : i ≡ number - 1 → ⊥ = λ e. apart (omega arith) in
+      get_or-set_other fresh (number - 1) i (with_points points (get_or fresh (number - 1) no_holding)) no_holding other
+      ∙ sym (points_none (get_or fresh i no_holding))
+      ∙ ap (λ z. with_points z (get_or fresh i no_holding)) (sym (cond-false (eqb number (i + 1)) points (pos 0) (ne_eqb number (i + 1) apart)))
+]
+
+-- a sum over one list after another
+pub sum_of_append : {X : Type 0} (f : X → ℤ) (xs ys : List X) → sum_of f (xs ++ ys) ≡ sum_of f xs +ℤ sum_of f ys
+sum_of_append f [] ys = sym (+ℤ_idl (sum_of f ys))
+sum_of_append f (x ∷ xs) ys = ap (λ z. f x +ℤ z) (sum_of_append f xs ys) ∙ sym (+ℤ_assoc (f x) (sum_of f xs) (sum_of f ys))
+
+-- a sum over the first items of a list, with one more
+pub sum_of_more : {X : Type 0} (f : X → ℤ) (xs : List X) (i : ℕ) (d : X) → i < length xs → sum_of f (take (i + 1) xs) ≡ sum_of f (take i xs) +ℤ f (get_or xs i d)
+sum_of_more f xs i d within =
+    ap (sum_of f) (take_more xs i d within) ∙ sum_of_append f (take i xs) (get_or xs i d ∷ []) ∙ ap (λ z. sum_of f (take i xs) +ℤ z) (+ℤ_idr (f (get_or xs i d)))

@@ -1,0 +1,110 @@
+-- What a posting gives all agents together: the market lines add up to minus the hour's residue, and the overcost lines to 0. Assumes nothing.
+use Rattle.std.proofs.Common.{◌≡◌, ℕ, zero, suc, ◌+◌, ◌-◌, ◌<◌, ◌≤◌, Bool, true, false, cond, ◌&&◌, eqb, ltb, leb, ◌⊎◌, List, length, pos, ◌+ℤ◌, ◌-ℤ◌, neg_ℤ, Some, None, sum, Option, sym, refl, ap, ◌∙◌, subst, inl, inr, eq-zero-or-pos, arith}
+use Rattle.std.proofs.lemmas.List.FromFn.{length-map-range_with_len}
+use Rattle.std.proofs.lemmas.Int.{ints}
+use Rattle.std.proofs.lemmas.Bool.{false≢true, and_parts, and_cases, leb-true, ltb-false, eq-eqb, ne_eqb, eqb-false, cond-true, cond-false}
+use Rattle.valuation.specs.Sharing.{part_of}
+use Rattle.valuation.proofs.Sharing.{sum-parts_of, part_of_no_points}
+use Rattle.settlement.specs.declared.agents.Agent.{Agent}
+use Rattle.settlement.specs.declared.agents.Role.{Role}
+use Rattle.settlement.specs.declared.lines.Class.{Class}
+use Rattle.settlement.specs.declared.lines.Class.TheVariants.{Normal, Obligated, Forced}
+use Rattle.settlement.specs.declared.lines.Line.{Line}
+use Rattle.settlement.specs.Hour.{line_at, role_at, injected_amount, withdrawn_amount, market_line, excess_in, excess_on, is_obligated, is_forced, obligated_on, obligated_sum, caused_on, caused_sum, weight_at, weights_of, carried_by, overcost_line, residue_of}
+use Rattle.settlement.specs.Lines.{class_of, must_run, class_kept, line_kept}
+use Rattle.settlement.specs.PostingFaults.{uncarried}
+use Rattle.settlement.specs.Sums.{sum_to, sum_to_ℤ}
+use Rattle.settlement.proofs.Sums.{sum_to_same, sum_to_change, sum_to_const_zero, sum_to_zero, sum_to_add, sum_to_swap, sum_to_ℤ_add, sum_counting}
+
+-- a sum of differences
+pub sum_to_ℤ_less : (n : ℕ) (f g : ℕ → ℕ) → sum_to_ℤ n (λ k. pos (f k) -ℤ pos (g k)) ≡ pos (sum_to n f) -ℤ pos (sum_to n g)
+sum_to_ℤ_less zero f g = refl
+sum_to_ℤ_less (suc n) f g = omega (arith, ints, sum_to_ℤ_less n f g)
+
+-- ---- the excess of a line
+
+-- the excess of a line if it is forced
+abbrev forced_on : ℕ → Line → ℕ
+forced_on price l = cond (is_forced (class_of l.class)) (excess_on price l) 0
+
+-- every excess is obligated or forced
+excess_split : (price : ℕ) (l : Line) (class : Option Class) →
+    excess_in price l class ≡ cond (is_obligated class) (excess_in price l class) 0 + cond (is_forced class) (excess_in price l class) 0
+excess_split price l None = refl
+excess_split price l (Some Normal) = refl
+excess_split price l (Some Obligated) = omega arith
+excess_split price l (Some Forced) = omega arith
+
+-- the cause of a forced line is an agent of the book
+cause_within : (count : ℕ) (role : Option Role) (l : Line) (class : Option Class) → class_kept count role l class ≡ true → is_forced class ≡ true → (1 ≤ l.cause) × (l.cause ≤ count)
+cause_within count role l None kept forced = absurd (false≢true forced)
+cause_within count role l (Some Normal) kept forced = absurd (false≢true forced)
+cause_within count role l (Some Obligated) kept forced = absurd (false≢true forced)
+cause_within count role l (Some Forced) kept forced =
+    let tests = and_parts (leb 1 l.cause) (leb l.cause count) (and_parts (must_run role l) (leb 1 l.cause && leb l.cause count) kept).1 in
+    (leb-true 1 l.cause tests.0, leb-true l.cause count tests.1)
+
+-- one agent, and no other, caused a forced line
+caused_once : (n cause excess : ℕ) (forced : Bool) → (forced ≡ true → (1 ≤ cause) × (cause ≤ n)) →
+    sum_to n (λ i. cond (forced && eqb cause (i + 1)) excess 0) ≡ cond forced excess 0
+caused_once n cause excess false within = sum_to_const_zero n
+caused_once n cause excess true within =
+    let least : 1 ≤ cause = (within refl).0 in
+    let most : cause ≤ n = (within refl).1 in
+    let here = cond-true (eqb cause (cause - 1 + 1)) excess 0 (eq-eqb cause (cause - 1 + 1) (omega arith)) in
+    let only = sum_to_change n (λ i. 0) (λ i. cond (eqb cause (i + 1)) excess 0) (cause - 1) (omega arith)
+    (λ i below other. cond-false (eqb cause (i + 1)) excess 0 (ne_eqb cause (i + 1) (λ e. other (omega arith)))) in
+    omega (arith, sum_to_const_zero n)
+
+-- the parts of what can be carried add up
+pub parts_together : (points : ℕ) (weights : List ℕ) → (ltb 0 points && eqb (sum weights) 0) ≡ false → sum_to (length weights) (part_of points weights) ≡ points
+parts_together points weights carried = either (eq-zero-or-pos (sum weights))
+  where
+    nothing : sum weights ≡ 0 → (ltb 0 points ≡ false) ⊎ (eqb (sum weights) 0 ≡ false) → points ≡ 0
+    nothing none (inl few) = omega (arith, ltb-false 0 points few)
+    nothing none (inr some) = absurd (eqb-false (sum weights) 0 some none)
+
+    either : (sum weights ≡ 0) ⊎ (0 < sum weights) → sum_to (length weights) (part_of points weights) ≡ points
+    either (inl none) =
+        let empty : points ≡ 0 = nothing none (and_cases (ltb 0 points) (eqb (sum weights) 0) carried) in
+        sum_to_zero (length weights) (part_of points weights) (λ i below. ap (λ x. part_of x weights i) empty ∙ part_of_no_points weights i) ∙ sym empty
+    either (inr some) = sym (sum_counting (part_of points weights) (length weights)) ∙ sum-parts_of points weights some
+
+-- ---- an hour
+
+module _ (agents : List Agent) (price : ℕ) (lines : List Line) (kept : (j : ℕ) → j < length lines → line_kept (length lines) (role_at agents j) (line_at lines j) ≡ true) (carried : uncarried agents price lines ≡ false) where
+  -- all that was caused is the forced excess
+  caused_together : sum_to (length lines) (caused_sum price lines) ≡ sum_to (length lines) (λ j. forced_on price (line_at lines j))
+  caused_together =
+      sum_to_swap (length lines) (length lines) (λ i j. caused_on price i (line_at lines j))
+      ∙ sum_to_same (length lines) _ _ (λ j below.
+      caused_once (length lines) (line_at lines j).cause (excess_on price (line_at lines j)) (is_forced (class_of (line_at lines j).class))
+      (cause_within (length lines) (role_at agents j) (line_at lines j) (class_of (line_at lines j).class) (kept j below)))
+
+  -- all that is carried is the obligated excess
+  carried_together : sum_to (length lines) (carried_by agents price lines) ≡ obligated_sum price lines
+  carried_together =
+      subst (λ n. sum_to n (carried_by agents price lines) ≡ obligated_sum price lines) (length-map-range_with_len (weight_at agents lines) 0 (length lines))
+      (parts_together (obligated_sum price lines) (weights_of agents lines) carried)
+
+  -- all excess is caused or carried
+  excess_together : sum_to (length lines) (λ i. excess_on price (line_at lines i)) ≡ sum_to (length lines) (λ i. caused_sum price lines i + carried_by agents price lines i)
+  excess_together =
+      let obligated = λ (j : ℕ). obligated_on price (line_at lines j) in
+      let forced = λ (j : ℕ). forced_on price (line_at lines j) in
+      let split = sum_to_same (length lines) (λ j. excess_on price (line_at lines j)) (λ j. obligated j + forced j)
+      (λ j below. excess_split price (line_at lines j) (class_of (line_at lines j).class)) in
+      omega (arith, caused_together, carried_together, sum_to_add (length lines) obligated forced, sum_to_add (length lines) (caused_sum price lines) (carried_by agents price lines))
+
+  market_together : sum_to_ℤ (length lines) (λ i. market_line price (line_at lines i)) ≡ neg_ℤ (residue_of price lines)
+  market_together =
+      omega (arith, ints, sum_to_ℤ_less (length lines) (λ i. injected_amount price (line_at lines i)) (λ i. withdrawn_amount price (line_at lines i)))
+
+  overcost_together : sum_to_ℤ (length lines) (overcost_line agents price lines) ≡ pos 0
+  overcost_together =
+      omega (arith, ints, excess_together, sum_to_ℤ_less (length lines) (λ i. excess_on price (line_at lines i)) (λ i. caused_sum price lines i + carried_by agents price lines i))
+
+  -- what a posting gives all agents together
+  pub lines_together : sum_to_ℤ (length lines) (λ i. market_line price (line_at lines i) +ℤ overcost_line agents price lines i) ≡ neg_ℤ (residue_of price lines)
+  lines_together =
+      omega (arith, ints, market_together, overcost_together, sum_to_ℤ_add (length lines) (λ i. market_line price (line_at lines i)) (overcost_line agents price lines))

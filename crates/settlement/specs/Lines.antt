@@ -1,0 +1,37 @@
+-- The lines of a posting: their limits and their rules. Assumes nothing.
+use Rattle.std.specs.Prelude.{ℕ, Bool, false, cond, ◌&&◌, Some, None, Option, ◌==◌, nat_le}
+use Rattle.settlement.specs.declared.agents.Role.{Role}
+use Rattle.settlement.specs.declared.lines.Class.{Class}
+use Rattle.settlement.specs.declared.lines.Class.TheVariants.{Normal, Obligated, Forced}
+use Rattle.settlement.specs.declared.lines.Line.{Line}
+use Rattle.settlement.specs.Agents.{generates}
+
+-- 1 is normal, 2 obligated, 3 forced
+abbrev pub class_of : ℕ → Option Class
+class_of code = cond (code == 1) (Some Normal) (cond (code == 2) (Some Obligated) (cond (code == 3) (Some Forced) None))
+
+-- energies are 0 to 4,000,000 kWh, node factors 50,000 to 150,000 hundred-thousandths, costs 0 to 2,000,000 micro-dollars per kWh
+abbrev pub line_within : Line → Bool
+line_within l =
+    nat_le l.injected 4000000 && (nat_le l.withdrawn 4000000 && (nat_le l.gross 4000000
+    && (nat_le 50000 l.factor && (nat_le l.factor 150000 && nat_le l.cost 2000000))))
+
+-- an obligated or forced line is a generator's, with a gross of at least the injected energy
+abbrev pub must_run : Option Role → Line → Bool
+must_run None l = false
+must_run (Some role) l = generates role && nat_le l.injected l.gross
+
+-- the rule of each class: a normal line has no gross, cost or cause; an obligated one no cause; a forced one has an agent of the book for its cause
+abbrev pub class_kept : ℕ → Option Role → Line → Option Class → Bool
+class_kept count role l None = false
+class_kept count role l (Some Normal) = l.gross == 0 && (l.cost == 0 && l.cause == 0)
+class_kept count role l (Some Obligated) = must_run role l && l.cause == 0
+class_kept count role l (Some Forced) = must_run role l && (nat_le 1 l.cause && nat_le l.cause count)
+
+-- a line of an agent with this role keeps the rule of its class, in a book of so many agents
+abbrev pub line_kept : ℕ → Option Role → Line → Bool
+line_kept count role l = class_kept count role l (class_of l.class)
+
+-- what stands past the last line: nothing at all
+abbrev pub no_line : Line
+no_line = record { class = 0; cause = 0; injected = 0; withdrawn = 0; gross = 0; factor = 0; cost = 0 }
