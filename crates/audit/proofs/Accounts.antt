@@ -5,15 +5,15 @@ use Rattle.tally.specs.Energy.{energy_of, energy_joined, energy_undone}
 use Rattle.tally.specs.MoneyLaws.{money_of_joined, money_of_undone}
 use Rattle.tally.specs.EnergyLaws.{energy_same}
 use Rattle.tally.proofs.PairLaws.{pair_same}
-use Rattle.book.specs.Calls.{entry_of}
-use Rattle.book.specs.Hour.{Figures}
-use Rattle.book.specs.Sums.{sum_to, sum_to_ℤ}
-use Rattle.book.specs.Memory.{holding_joined, holding_undone}
+use Rattle.settlement.specs.Holdings.{entry_of}
+use Rattle.settlement.specs.Hour.{Figures}
+use Rattle.settlement.specs.Sums.{sum_to, sum_to_ℤ}
+use Rattle.settlement.specs.Holdings.{holding_joined, holding_undone}
 use Rattle.audit.specs.Requests.{Opening, hours_in}
 use Rattle.audit.specs.Standing.{Standing}
 use Rattle.audit.specs.Worked.{figures_at, figures_from}
 use Rattle.audit.proofs.Holds.{account_of}
-use Rattle.book.proofs.Sums.{sum_to_change, sum_to_ℤ_change}
+use Rattle.settlement.proofs.Sums.{sum_to_change, sum_to_ℤ_change}
 
 -- money that loses some and gains other
 money_changed : (a b c d x y z w x' y' z' w' : ℤ) → money_joined (money_joined (money_of a b c d) (money_undone (money_of x y z w))) (money_of x' y' z' w') ≡ money_of (a -ℤ x +ℤ x') (b -ℤ y +ℤ y') (c -ℤ z +ℤ z') (d -ℤ w +ℤ w')

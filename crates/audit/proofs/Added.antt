@@ -1,8 +1,8 @@
 -- A sum in 64 bits with one more summand: where both are far below 2 ^ 63, nothing wraps. Assumes nothing.
 use Rattle.std.proofs.Common.{◌≡◌, ℕ, ◌+◌, ◌*◌, ◌≤◌, ℤ, ◌+ℤ◌, nat_abs, sym, ap, ◌∙◌, add-mul, arith, w64, SFits, to_z, of_z}
 use Rattle.std.proofs.lemmas.Int.{ints}
-use Rattle.book.specs.Sums.{sum_to_ℤ}
-use Rattle.book.proofs.Sums.{sum_to_ℤ_more}
+use Rattle.settlement.specs.Sums.{sum_to_ℤ}
+use Rattle.settlement.proofs.Sums.{sum_to_ℤ_more}
 
 added : (a b : ℤ) → nat_abs a ≤ 1000000000000000000 → nat_abs b ≤ 1000000000000000000 → to_z w64 (of_z w64 (a +ℤ to_z w64 (of_z w64 b))) ≡ a +ℤ b
 added a b few small = omega (arith, ints)

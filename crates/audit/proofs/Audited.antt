@@ -4,18 +4,19 @@ use mathlib.Core.List.{map-map}
 use Rattle.std.specs.List.{range_with_len}
 use Rattle.std.proofs.lemmas.List.FromFn.{length-map-range_with_len, get_or-map-range_with_len}
 use Rattle.std.proofs.lemmas.Bool.{and_from, and_parts, or_parts, not-false, leb-true, ltb-false, eqb-true, eq-eqb}
-use Rattle.book.specs.declared.faults.BookFault.{BookFault}
-use Rattle.book.specs.declared.faults.BookFault.TheVariants.{WrongSize, OutsideBook}
+use Rattle.settlement.specs.declared.faults.BookFault.{BookFault}
+use Rattle.settlement.specs.declared.faults.BookFault.TheVariants.{WrongSize, OutsideBook}
 use Rattle.book.specs.declared.months.MonthFigures.{MonthFigures}
 use Rattle.book.specs.declared.statements.Statement.{Statement}
-use Rattle.book.specs.Agents.{agent_fits}
+use Rattle.settlement.specs.Agents.{agent_fits}
 use Rattle.book.specs.Calls.{outcome, outcome_of, open_fault, emptied, opened, statement_in}
-use Rattle.book.specs.Faults.{met_if, first_met}
-use Rattle.book.specs.Memory.{Memory, sized, all_of, stored_fits, size_fault}
+use Rattle.settlement.specs.Faults.{met_if, first_met}
+use Rattle.settlement.specs.Sums.{all_of}
+use Rattle.book.specs.Memory.{Memory, sized, stored_fits, size_fault}
 use Rattle.book.specs.Months.{hours_of, size_known, month_figures}
-use Rattle.book.specs.Sums.{sum_to_ℤ}
-use Rattle.book.proofs.Measured.{unmet}
-use Rattle.book.proofs.Sums.{sum_to_ℤ_same, map_counting_same}
+use Rattle.settlement.specs.Sums.{sum_to_ℤ}
+use Rattle.settlement.proofs.Measured.{unmet}
+use Rattle.settlement.proofs.Sums.{sum_to_ℤ_same, map_counting_same}
 use Rattle.audit.specs.declared.calls.Answer.{Answer}
 use Rattle.audit.specs.declared.calls.Call.{Call}
 use Rattle.audit.specs.Audits.{Lent, audit_fault}

@@ -1,11 +1,11 @@
 -- All balances together are minus the residue of the standing hours. Assumes nothing.
 use Rattle.std.proofs.Common.{◌≡◌, ℕ, ◌<◌, true, ℤ, ◌+ℤ◌, neg_ℤ, Some, sym, ◌∙◌, subst, arith}
 use Rattle.std.proofs.lemmas.Int.{ints}
-use Rattle.book.specs.Hour.{line_at, role_at}
-use Rattle.book.specs.Lines.{line_kept}
-use Rattle.book.specs.Sums.{sum_to_ℤ}
-use Rattle.book.proofs.Sums.{sum_to_ℤ_same, sum_to_ℤ_const_zero, sum_to_ℤ_add, sum_to_ℤ_neg, sum_to_ℤ_swap}
-use Rattle.book.proofs.Together.{lines_together}
+use Rattle.settlement.specs.Hour.{line_at, role_at}
+use Rattle.settlement.specs.Lines.{line_kept}
+use Rattle.settlement.specs.Sums.{sum_to_ℤ}
+use Rattle.settlement.proofs.Sums.{sum_to_ℤ_same, sum_to_ℤ_const_zero, sum_to_ℤ_add, sum_to_ℤ_neg, sum_to_ℤ_swap}
+use Rattle.settlement.proofs.Together.{lines_together}
 use Rattle.audit.specs.Requests.{Opening, count_in, hours_in, Posting}
 use Rattle.audit.specs.Standing.{Standing}
 use Rattle.audit.specs.Worked.{figures_from, figures_at, balance_of, residue_from, residue_after, balances_after}

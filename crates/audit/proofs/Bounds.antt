@@ -2,11 +2,11 @@
 use Rattle.std.proofs.Common.{◌≡◌, ℕ, ◌<◌, ◌≤◌, pos, nat_abs, Some, None, Option, refl, subst, arith, w64, SFits}
 use Rattle.std.proofs.lemmas.Int.{ints}
 use Rattle.valuation.proofs.Amounts.{amount_of_le}
-use Rattle.book.specs.declared.lines.Line.{Line}
-use Rattle.book.specs.Hour.{line_at, market_line, overcost_line}
-use Rattle.book.specs.Sums.{sum_to}
-use Rattle.book.proofs.Bounds.{Within, excess_le, caused_le, carried_le}
-use Rattle.book.proofs.Sums.{sum_to_const_zero, sum_to_le, sum_to_swap, sum_to_ℤ_abs, sum_to_ℤ_zero, fits_abs}
+use Rattle.settlement.specs.declared.lines.Line.{Line}
+use Rattle.settlement.specs.Hour.{line_at, market_line, overcost_line}
+use Rattle.settlement.specs.Sums.{sum_to}
+use Rattle.settlement.proofs.Bounds.{Within, excess_le, caused_le, carried_le}
+use Rattle.settlement.proofs.Sums.{sum_to_const_zero, sum_to_le, sum_to_swap, sum_to_ℤ_abs, sum_to_ℤ_zero, fits_abs}
 use Rattle.audit.specs.Requests.{Opening, count_in, hours_in, Posting}
 use Rattle.audit.specs.Standing.{Standing}
 use Rattle.audit.specs.Worked.{figures_from, figures_at, market_of, contract_of, overcost_of, power_of, balance_of, injected_of, withdrawn_of}

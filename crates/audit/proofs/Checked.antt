@@ -1,15 +1,15 @@
 -- What a posting that meets no fault is known to be. Assumes nothing.
 use Rattle.std.proofs.Common.{◌≡◌, ℕ, ◌<◌, Bool, true, false, List, [], ◌∷◌, length, Some, None, Option, sym, refl, ap, ◌∙◌, arith}
 use Rattle.std.proofs.lemmas.Bool.{leb-false}
-use Rattle.book.specs.declared.faults.LineFault.{LineFault}
-use Rattle.book.specs.declared.faults.BookFault.{BookFault}
-use Rattle.book.specs.declared.faults.BookFault.TheVariants.{NoCarrier}
-use Rattle.book.specs.Faults.{met_if, first_met, of_posting}
-use Rattle.book.specs.Hour.{line_at, role_at}
-use Rattle.book.specs.Lines.{line_kept}
-use Rattle.book.specs.PostingFaults.{hour_fault, head_fault, limit_fault, rule_fault, together_fault, uncarried, Measured}
-use Rattle.book.proofs.Bounds.{Within, within_limits}
-use Rattle.book.proofs.Measured.{unmet, mapped_none, each_passed, head_long, measured}
+use Rattle.settlement.specs.declared.faults.LineFault.{LineFault}
+use Rattle.settlement.specs.declared.faults.BookFault.{BookFault}
+use Rattle.settlement.specs.declared.faults.BookFault.TheVariants.{NoCarrier}
+use Rattle.settlement.specs.Faults.{met_if, first_met, of_posting}
+use Rattle.settlement.specs.Hour.{line_at, role_at}
+use Rattle.settlement.specs.Lines.{line_kept}
+use Rattle.settlement.specs.PostingFaults.{hour_fault, head_fault, limit_fault, rule_fault, together_fault, uncarried, Measured}
+use Rattle.settlement.proofs.Bounds.{Within, within_limits}
+use Rattle.settlement.proofs.Measured.{unmet, mapped_none, each_passed, head_long, measured}
 use Rattle.audit.specs.Requests.{Opening, count_in, hours_in, Posting}
 use Rattle.audit.proofs.Sound.{Opened, Faultless}
 

@@ -3,7 +3,7 @@ use Rattle.std.proofs.Common.{◌≡◌, ℕ, ◌*◌, ◌<◌, cond, eqb, List,
 use Rattle.std.proofs.lemmas.Nat.{div-mul-add, mod-mul-add, mul-add-lt}
 use Rattle.std.proofs.lemmas.List.FromFn.{length-map-range_with_len, get_or-map-range_with_len}
 use Rattle.book.specs.Calls.{entry_place, entries_with, accounts_with}
-use Rattle.book.specs.Memory.{Holding, no_holding, holding_joined, holding_undone}
+use Rattle.settlement.specs.Holdings.{Holding, no_holding, holding_joined, holding_undone}
 
 module _ (hours hour : ℕ) (new : ℕ → Holding) (entries : List Holding) where
   pub length-entries_with : length (entries_with hours hour new entries) ≡ length entries

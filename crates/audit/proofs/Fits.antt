@@ -3,19 +3,21 @@ use Rattle.std.proofs.Common.{◌≡◌, ℕ, suc, ◌/◌, ◌%◌, ◌^◌, �
 use native.Mathlib.Nat.{mod-le}
 use Rattle.std.proofs.lemmas.Nat.{div-add-mod', div_below, mod_below}
 use Rattle.std.proofs.lemmas.Bool.{and_from, eq-eqb, le-leb}
-use Rattle.book.specs.declared.faults.BookFault.{BookFault}
-use Rattle.book.specs.declared.faults.BookFault.TheVariants.{WrongSize, StoredOutside}
-use Rattle.book.specs.Agents.{agent_fits}
-use Rattle.book.specs.Faults.{met_if, first_met}
-use Rattle.book.specs.Memory.{Memory, no_holding, sized, all_of, mark_fits, energy_within, all_withdrawn, stored_fits, size_fault, stored_fault}
-use Rattle.book.specs.Sums.{sum_to}
+use Rattle.settlement.specs.declared.faults.BookFault.{BookFault}
+use Rattle.settlement.specs.declared.faults.BookFault.TheVariants.{WrongSize, StoredOutside}
+use Rattle.settlement.specs.Agents.{agent_fits}
+use Rattle.settlement.specs.Faults.{met_if, first_met}
+use Rattle.settlement.specs.Holdings.{no_holding}
+use Rattle.settlement.specs.Sums.{all_of}
+use Rattle.book.specs.Memory.{Memory, sized, mark_fits, energy_within, all_withdrawn, stored_fits, size_fault, stored_fault}
+use Rattle.settlement.specs.Sums.{sum_to}
 use Rattle.audit.specs.Requests.{Opening, count_in, hours_in, Posting}
 use Rattle.audit.specs.Standing.{Standing}
 use Rattle.audit.specs.Worked.{withdrawn_of}
 use Rattle.audit.proofs.Bounds.{injected_le, withdrawn_le, injected_of_le, withdrawn_of_le, all_withdrawn_le}
 use Rattle.audit.proofs.Holds.{Holds, mark_for}
 use Rattle.audit.proofs.Sound.{Opened, Sound}
-use Rattle.book.proofs.Sums.{sum_to_same, sum_by_list}
+use Rattle.settlement.proofs.Sums.{sum_to_same, sum_by_list}
 
 -- a test that each place of a list passes
 all_from : {X : Type 0} (test : X → Bool) (xs : List X) (d : X) → ((k : ℕ) → k < length xs → test (get_or xs k d) ≡ true) → all_of test xs ≡ true

@@ -4,8 +4,10 @@ use Rattle.tally.specs.Money.{money_of}
 use Rattle.tally.specs.Energy.{energy_of}
 use Rattle.tally.specs.Pair.{pair_of}
 use Rattle.book.specs.declared.months.MonthFigures.{MonthFigures}
-use Rattle.book.specs.Calls.{entry_of, entry_place}
-use Rattle.book.specs.Memory.{Memory, Holding, no_holding}
+use Rattle.settlement.specs.Holdings.{entry_of}
+use Rattle.book.specs.Calls.{entry_place}
+use Rattle.settlement.specs.Holdings.{Holding, no_holding}
+use Rattle.book.specs.Memory.{Memory}
 use Rattle.book.specs.Months.{month_figures}
 use Rattle.audit.specs.Requests.{Opening, count_in, hours_in, Posting}
 use Rattle.audit.specs.Standing.{Standing}

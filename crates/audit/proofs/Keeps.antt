@@ -6,15 +6,17 @@ use Rattle.std.proofs.lemmas.Bool.{cases_eq, cond-true, cond-false, eq-eqb, ne_e
 use Rattle.tally.specs.Money.{money_of}
 use Rattle.tally.specs.Energy.{energy_of}
 use Rattle.tally.specs.Pair.{pair_of}
-use Rattle.book.specs.Calls.{entry_of, entry_place, rewritten, emptied}
-use Rattle.book.specs.Memory.{Memory, Holding, no_holding, holding_joined, holding_undone}
+use Rattle.settlement.specs.Holdings.{entry_of}
+use Rattle.book.specs.Calls.{entry_place, rewritten, emptied}
+use Rattle.settlement.specs.Holdings.{Holding, no_holding, holding_joined, holding_undone}
+use Rattle.book.specs.Memory.{Memory}
 use Rattle.audit.specs.Requests.{Opening, count_in, hours_in, Posting}
 use Rattle.audit.specs.Standing.{Standing, nothing_stands, standing_with}
 use Rattle.audit.specs.Worked.{figures_from}
 use Rattle.audit.proofs.Accounts.{account_changed}
 use Rattle.audit.proofs.Columns.{entry_with, length-entries_with, account_with, length-accounts_with}
 use Rattle.audit.proofs.Holds.{Holds, mark_for}
-use Rattle.book.proofs.Sums.{sum_to_const_zero, sum_to_ℤ_const_zero}
+use Rattle.settlement.proofs.Sums.{sum_to_const_zero, sum_to_ℤ_const_zero}
 
 -- a list with one place changed
 get_or-set : {X : Type 0} (xs : List X) (k j : ℕ) (x d : X) → k < length xs → get_or (set xs k x) j d ≡ cond (eqb j k) x (get_or xs j d)

@@ -3,12 +3,12 @@ use Rattle.std.proofs.Common.{◌≡◌, ℕ, ◌<◌, Bool, true, false, cond, 
 use Rattle.std.proofs.lemmas.Bool.{eqb-true}
 use Rattle.tally.specs.Peak.{peak_of, no_peak, peak_joined}
 use Rattle.tally.specs.Total.{total}
-use Rattle.book.specs.declared.faults.BookFault.{BookFault}
+use Rattle.settlement.specs.declared.faults.BookFault.{BookFault}
 use Rattle.audit.specs.Requests.{Opening, hours_in, Posting, Request, posting, withdrawal, statement}
 use Rattle.audit.specs.Standing.{Standing, nothing_stands, standing_with, fault_met, changed, next, standing_after, after, Level}
 use Rattle.audit.specs.Worked.{figures_from, figures_at, market_of, contract_of, overcost_of, injected_of, withdrawn_of, peak_for, worked}
 use Rattle.audit.proofs.Sound.{Faultless, Sound}
-use Rattle.book.proofs.Sums.{sum_to_same, sum_to_ℤ_same, map_counting_same}
+use Rattle.settlement.proofs.Sums.{sum_to_same, sum_to_ℤ_same, map_counting_same}
 
 -- ---- how it came to stand does not matter
 

@@ -1,7 +1,7 @@
 -- A whole run: what is told and what stands, for any list of calls on memory that holds what stands. Assumes nothing.
 use Rattle.std.proofs.Common.{◌≡◌, ℕ, true, cond, eqb, List, [], ◌∷◌, map, is_some, Some, None, Option, sym, refl, ap, ◌∙◌, inl, inr}
 use Rattle.std.proofs.lemmas.Bool.{false≢true, cases_eq, eq-eqb, ne_eqb}
-use Rattle.book.specs.declared.faults.BookFault.{BookFault}
+use Rattle.settlement.specs.declared.faults.BookFault.{BookFault}
 use Rattle.book.specs.Memory.{Memory}
 use Rattle.audit.specs.declared.calls.Call.{Call}
 use Rattle.audit.specs.Reading.{request_of, reply_of}

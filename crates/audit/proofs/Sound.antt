@@ -1,7 +1,7 @@
 -- What an accepted opening and accepted postings are known to be. Assumes nothing.
 use Rattle.std.proofs.Common.{◌≡◌, ℕ, ◌<◌, ◌≤◌, true, Some, None}
-use Rattle.book.specs.Agents.{agent_fits}
-use Rattle.book.specs.Memory.{all_of}
+use Rattle.settlement.specs.Agents.{agent_fits}
+use Rattle.settlement.specs.Sums.{all_of}
 use Rattle.audit.specs.Requests.{Opening, count_in, hours_in, Posting, posting}
 use Rattle.audit.specs.Standing.{Standing, nothing_stands, fault_met}
 

@@ -5,13 +5,14 @@ use Rattle.std.proofs.lemmas.Int.{int_wrap_fits}
 use Rattle.std.proofs.lemmas.Bool.{ne_eqb, le-ltb}
 use Rattle.tally.specs.Peak.{no_peak, peak_of, peak_joined}
 use Rattle.tally.specs.Total.{total}
-use Rattle.book.specs.declared.faults.BookFault.TheVariants.{WrongSize, StoredOutside, OutsideBook}
+use Rattle.settlement.specs.declared.faults.BookFault.TheVariants.{WrongSize, StoredOutside, OutsideBook}
 use Rattle.book.specs.declared.months.MonthFigures.{MonthFigures}
 use Rattle.book.specs.Calls.{entry_place, peak_over, statement_in, stated}
-use Rattle.book.specs.Faults.{met_if, first_met, answer_of}
-use Rattle.book.specs.Memory.{Memory, no_holding, sized, stored_fits}
+use Rattle.settlement.specs.Faults.{met_if, first_met, answer_of}
+use Rattle.settlement.specs.Holdings.{no_holding}
+use Rattle.book.specs.Memory.{Memory, sized, stored_fits}
 use Rattle.book.specs.Months.{hours_of}
-use Rattle.book.proofs.Sums.{map_counting_same}
+use Rattle.settlement.proofs.Sums.{map_counting_same}
 use Rattle.audit.specs.Reading.{worked_in}
 use Rattle.audit.specs.Requests.{Opening, count_in, hours_in}
 use Rattle.audit.specs.Standing.{Standing}

@@ -1,14 +1,15 @@
 -- Each call on memory that holds what stands: the answer is the one worked from what stands, and memory holds what stands then. Assumes nothing.
 use Rattle.std.proofs.Common.{◌≡◌, ℕ, ◌-◌, ◌<◌, ◌≤◌, cond, not, ◌||◌, eqb, ltb, [], ◌∷◌, is_some, Some, None, Option, sym, refl, ap, ◌∙◌, subst, ⊎_elim, arith}
 use Rattle.std.proofs.lemmas.Bool.{cases_lt, le-leb, leb-false, eqb-false, ltb-false, or_parts}
-use Rattle.book.specs.declared.faults.BookFault.{BookFault}
-use Rattle.book.specs.declared.faults.BookFault.TheVariants.{OutsideBook, NoCarrier, FreeHour}
-use Rattle.book.specs.Calls.{Outcome, outcome, entry_of, post_fault, posted, withdraw_fault, withdrawn, statement_in, statement_fault, stated}
-use Rattle.book.specs.Faults.{met_if, first_met, of_posting, answer_of}
-use Rattle.book.specs.Hour.{hour_of}
+use Rattle.settlement.specs.declared.faults.BookFault.{BookFault}
+use Rattle.settlement.specs.declared.faults.BookFault.TheVariants.{OutsideBook, NoCarrier, FreeHour}
+use Rattle.settlement.specs.Holdings.{entry_of}
+use Rattle.book.specs.Calls.{Outcome, outcome, post_fault, posted, withdraw_fault, withdrawn, statement_in, statement_fault, stated}
+use Rattle.settlement.specs.Faults.{met_if, first_met, of_posting, answer_of}
+use Rattle.settlement.specs.Hour.{own_of}
 use Rattle.book.specs.Memory.{Memory}
-use Rattle.book.specs.PostingFaults.{hour_fault, line_fault, uncarried}
-use Rattle.book.proofs.Measured.{unmet}
+use Rattle.settlement.specs.PostingFaults.{hour_fault, line_fault, uncarried}
+use Rattle.settlement.proofs.Measured.{unmet}
 use Rattle.audit.specs.declared.calls.Call.{Call}
 use Rattle.audit.specs.declared.calls.Call.TheVariants.{Post, Withdraw, Provisional}
 use Rattle.audit.specs.Reading.{request_of, worked_in, reply_of}
@@ -59,7 +60,7 @@ module _ (o : Opening) (opened : Opened o) (s : Standing) (sound : Sound o s) (m
     post_step : Stepped (posting hour p) (posted (figures_in o) hour p.price p.lines m)
     post_step =
         call_step (posting hour p) (post_fault (figures_in o) hour p.price p.lines m) _ post_fault_lem
-        (λ none. holds_rewritten o s m holds hour (hour_within o hour p none) (Some p) 1 _ refl (λ i agent. ap (λ agents. entry_of (hour_of agents p.price p.lines i)) holds.agents))
+        (λ none. holds_rewritten o s m holds hour (hour_within o hour p none) (Some p) 1 _ refl (λ i agent. ap (λ agents. entry_of (own_of agents p.price p.lines i)) holds.agents))
 
   -- ---- withdrawal
 

@@ -1,11 +1,11 @@
 -- What an audit is lent, and when it is refused. Assumes nothing.
 use Rattle.std.specs.Prelude.{ℕ, not, ◌&&◌, List, [], ◌∷◌, length, Option, ◌==◌}
-use Rattle.book.specs.declared.faults.BookFault.{BookFault}
-use Rattle.book.specs.declared.faults.BookFault.TheVariants.{WrongSize}
+use Rattle.settlement.specs.declared.faults.BookFault.{BookFault}
+use Rattle.settlement.specs.declared.faults.BookFault.TheVariants.{WrongSize}
 use Rattle.book.specs.declared.months.MonthFigures.{MonthFigures}
 use Rattle.book.specs.declared.statements.Statement.{Statement}
 use Rattle.book.specs.Calls.{open_fault}
-use Rattle.book.specs.Faults.{met_if, first_met}
+use Rattle.settlement.specs.Faults.{met_if, first_met}
 use Rattle.book.specs.Memory.{Memory}
 use Rattle.audit.specs.declared.calls.Answer.{Answer}
 

@@ -1,6 +1,6 @@
 -- How the host's calls, and what it is told, are read as the subject has them. Assumes nothing.
 use Rattle.std.specs.Prelude.{ℕ, List, vec_items}
-use Rattle.book.specs.declared.agents.Agent.{Agent}
+use Rattle.settlement.specs.declared.agents.Agent.{Agent}
 use Rattle.book.specs.declared.statements.Statement.{Statement}
 use Rattle.audit.specs.declared.calls.Call.{Call}
 use Rattle.audit.specs.declared.calls.Call.TheVariants.{Post, Withdraw, Provisional}

@@ -1,7 +1,7 @@
 -- A book's opening, and what its host asks of it, as the subject has them. Assumes nothing.
 use Rattle.std.specs.Prelude.{ℕ, ◌*◌, List, length}
-use Rattle.book.specs.declared.agents.Agent.{Agent}
-use Rattle.book.specs.declared.lines.Line.{Line}
+use Rattle.settlement.specs.declared.agents.Agent.{Agent}
+use Rattle.settlement.specs.declared.lines.Line.{Line}
 
 -- what a book is opened with; books are opened alike if these agree
 pub record Opening : Type 0 where

@@ -1,11 +1,12 @@
 -- What calls come to in memory, one after another. Assumes nothing.
 use Rattle.std.specs.Prelude.{ℕ, List, [], ◌∷◌, ℤ, Ok, Err, vec_items, Result, slice_index_or}
 use Rattle.tally.specs.Peak.{no_peak}
-use Rattle.book.specs.declared.faults.BookFault.{BookFault}
+use Rattle.settlement.specs.declared.faults.BookFault.{BookFault}
 use Rattle.book.specs.declared.months.MonthFigures.{MonthFigures}
 use Rattle.book.specs.declared.statements.Statement.{Statement}
 use Rattle.book.specs.Calls.{Outcome, posted, withdrawn, statement_of, stated}
-use Rattle.book.specs.Memory.{Memory, no_holding}
+use Rattle.settlement.specs.Holdings.{no_holding}
+use Rattle.book.specs.Memory.{Memory}
 use Rattle.audit.specs.declared.calls.Call.{Call}
 use Rattle.audit.specs.declared.calls.Call.TheVariants.{Post, Withdraw, Provisional}
 use Rattle.audit.specs.declared.calls.Answer.{Answer}

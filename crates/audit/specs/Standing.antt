@@ -1,9 +1,9 @@
 -- What stands, and which fault a request meets against it. Nothing here knows of memory. Assumes nothing.
 use Rattle.std.specs.Prelude.{◌≡◌, ℕ, ◌<◌, cond, not, ◌||◌, List, [], ◌∷◌, is_some, Some, None, Option, ◌==◌, nat_lt}
-use Rattle.book.specs.declared.faults.BookFault.{BookFault}
-use Rattle.book.specs.declared.faults.BookFault.TheVariants.{OutsideBook, NoCarrier, FreeHour}
-use Rattle.book.specs.Faults.{met_if, first_met, of_posting}
-use Rattle.book.specs.PostingFaults.{hour_fault, line_fault, uncarried}
+use Rattle.settlement.specs.declared.faults.BookFault.{BookFault}
+use Rattle.settlement.specs.declared.faults.BookFault.TheVariants.{OutsideBook, NoCarrier, FreeHour}
+use Rattle.settlement.specs.Faults.{met_if, first_met, of_posting}
+use Rattle.settlement.specs.PostingFaults.{hour_fault, line_fault, uncarried}
 use Rattle.audit.specs.Requests.{Opening, count_in, hours_in, Posting, Request, posting, withdrawal, statement}
 
 -- what stands: at each hour a posting, or none

@@ -1,7 +1,7 @@
 -- What the answers tell of the residue that stands at an hour. Assumes nothing.
 use Rattle.std.specs.Prelude.{◌≡◌, ℕ, Bool, true, false, cond, List, [], ◌∷◌, ℤ, pos, ◌==◌}
-use Rattle.book.specs.Hour.{residue_of}
-use Rattle.book.specs.PostingFaults.{Measured}
+use Rattle.settlement.specs.Hour.{residue_of}
+use Rattle.settlement.specs.PostingFaults.{Measured}
 use Rattle.audit.specs.Requests.{Request, posting, withdrawal, statement}
 use Rattle.audit.specs.Worked.{Reply, accepted, stated, refused}
 

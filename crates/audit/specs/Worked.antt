@@ -4,16 +4,16 @@ use Rattle.std.specs.List.{range_with_len}
 use Rattle.tally.specs.declared.peak.Peak.{Peak}
 use Rattle.tally.specs.Peak.{peak_of, no_peak, peak_joined}
 use Rattle.tally.specs.Total.{total}
-use Rattle.book.specs.declared.faults.BookFault.{BookFault}
-use Rattle.book.specs.Hour.{Figures, no_figures, hour_of, residue_of}
-use Rattle.book.specs.Sums.{sum_to, sum_to_ℤ}
+use Rattle.settlement.specs.declared.faults.BookFault.{BookFault}
+use Rattle.settlement.specs.Hour.{Figures, no_figures, own_of, residue_of}
+use Rattle.settlement.specs.Sums.{sum_to, sum_to_ℤ}
 use Rattle.audit.specs.Requests.{Opening, count_in, hours_in, Posting, Request, posting, withdrawal, statement}
 use Rattle.audit.specs.Standing.{Standing, fault_met, next}
 
 -- an agent's figures of an hour: those of the posting that stands there, or none
 abbrev pub figures_from : Opening → ℕ → Option Posting → Figures
 figures_from o i None = no_figures
-figures_from o i (Some p) = hour_of o.agents p.price p.lines i
+figures_from o i (Some p) = own_of o.agents p.price p.lines i
 
 abbrev pub figures_at : Opening → Standing → ℕ → ℕ → Figures
 figures_at o s i hour = figures_from o i (s.posted hour)

@@ -1,8 +1,8 @@
 //! The residue of the standing hours, worked from their postings alone.
 ghost use Rattle.std.specs.Prelude.{◌≡◌, ◌≤◌, map, length, pos, unsigned_abs};
-ghost use Rattle.book.specs.Hour.{residue_of};
-ghost use Rattle.book.specs.PostingFaults.{Measured};
-ghost use Rattle.book.specs.Sums.{sum_to_ℤ};
+ghost use Rattle.settlement.specs.Hour.{residue_of};
+ghost use Rattle.settlement.specs.PostingFaults.{Measured};
+ghost use Rattle.settlement.specs.Sums.{sum_to_ℤ};
 ghost use Rattle.audit.specs.Reading.{request_of, reply_of};
 ghost use Rattle.audit.specs.Told.{residue_left, residue_told, Postable, AllMeasured};
 

@@ -4,7 +4,7 @@ ghost use Rattle.std.specs.List.{range_with_len};
 ghost use Rattle.book.specs.Calls.{statement_in};
 ghost use Rattle.book.specs.Memory.{memory_of, sized, stored_fits};
 ghost use Rattle.book.specs.Months.{figures_of, hours_of};
-ghost use Rattle.book.specs.Sums.{sum_to_ℤ};
+ghost use Rattle.settlement.specs.Sums.{sum_to_ℤ};
 ghost use Rattle.audit.specs.Runs.{balance_at};
 
 use book::{Account, Agent, Entry, OpenMonth, Statement, provisional};

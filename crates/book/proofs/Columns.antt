@@ -5,9 +5,9 @@ use Rattle.std.proofs.lemmas.List.FromFn.{fill_by_all}
 use Rattle.std.proofs.lemmas.List.{get_or-set_same, get_or-set_other}
 use Rattle.std.proofs.lemmas.Bool.{cases_eq, eq-eqb, ne_eqb, lt-ltb, le-ltb, and_from, and_left, and_right}
 use Rattle.std.proofs.lemmas.Bool.Decides.{nat_tests}
-use Rattle.book.proofs.Sums.{map_counting_same}
+use Rattle.settlement.proofs.Sums.{map_counting_same}
 use Rattle.book.specs.Calls.{entry_place, entries_with, accounts_with}
-use Rattle.book.specs.Memory.{Holding, no_holding, holding_joined, holding_undone}
+use Rattle.settlement.specs.Holdings.{Holding, no_holding, holding_joined, holding_undone}
 
 -- an agent's entry of an hour lies within the entries of all
 pub place_within : (hours hour n i : ℕ) → hour < hours → i < n → entry_place hours i hour < n * hours

@@ -1,16 +1,18 @@
 -- Tables of faults, and what a call comes to by them. Assumes nothing.
 use Rattle.std.proofs.Common.{◌≡◌, ℕ, ◌*◌, Bool, true, false, not, eqb, List, [], ◌∷◌, length, get_or, Some, None, Ok, Err, Option, sym, refl, ap, ◌∙◌}
 use Rattle.std.proofs.lemmas.Bool.{and_parts, eqb-true}
-use Rattle.book.specs.declared.faults.BookFault.{BookFault}
-use Rattle.book.specs.declared.faults.BookFault.TheVariants.{WrongSize, NoCarrier, FreeHour}
-use Rattle.book.specs.declared.lines.Line.{Line}
+use Rattle.settlement.specs.declared.faults.BookFault.{BookFault}
+use Rattle.settlement.specs.declared.faults.BookFault.TheVariants.{WrongSize, NoCarrier, FreeHour}
+use Rattle.settlement.specs.declared.lines.Line.{Line}
 use Rattle.book.specs.declared.months.MonthFigures.{MonthFigures}
-use Rattle.book.specs.Calls.{outcome, outcome_of, posted, post_fault, withdrawn, withdraw_fault, rewritten, entry_of}
-use Rattle.book.specs.Faults.{first_met, met_if, of_posting, answer_of}
-use Rattle.book.specs.Hour.{hour_of}
-use Rattle.book.specs.Memory.{Memory, no_holding, sized, size_fault, stored_fault}
+use Rattle.settlement.specs.Holdings.{entry_of}
+use Rattle.book.specs.Calls.{outcome, outcome_of, posted, post_fault, withdrawn, withdraw_fault, rewritten}
+use Rattle.settlement.specs.Faults.{first_met, met_if, of_posting, answer_of}
+use Rattle.settlement.specs.Hour.{own_of}
+use Rattle.settlement.specs.Holdings.{no_holding}
+use Rattle.book.specs.Memory.{Memory, sized, size_fault, stored_fault}
 use Rattle.book.specs.Months.{hours_of}
-use Rattle.book.specs.PostingFaults.{hour_fault, line_fault, uncarried}
+use Rattle.settlement.specs.PostingFaults.{hour_fault, line_fault, uncarried}
 
 -- what the first two rows of a table answer, the table answers
 pub refused_early : {F : Type 0} (a b : Option F) (rest : List (Option F)) (fault : F) → Some fault ≡ first_met (a ∷ b ∷ []) → first_met (a ∷ b ∷ rest) ≡ Some fault
@@ -65,7 +67,7 @@ module _ (f : MonthFigures) (m : Memory) where
 
   pub post_accepted : (hour price : ℕ) (lines : List Line) (memory : Memory) → None ≡ memory_fault →
       None ≡ line_fault f.agents (hours_of f.days) m.agents hour price lines → None ≡ met_if (uncarried m.agents price lines) NoCarrier →
-      memory ≡ rewritten (hours_of f.days) hour 1 (λ i. entry_of (hour_of m.agents price lines i)) m → outcome_of (Ok tt) memory ≡ posted f hour price lines m
+      memory ≡ rewritten (hours_of f.days) hour 1 (λ i. entry_of (own_of m.agents price lines i)) m → outcome_of (Ok tt) memory ≡ posted f hour price lines m
   post_accepted hour price lines memory none own carried holds =
       accepted_outcome (post_fault f hour price lines m) tt m _ memory
       (passed_early (size_fault f.agents (hours_of f.days) m) (stored_fault m) _ none

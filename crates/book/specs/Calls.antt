@@ -1,6 +1,6 @@
 -- Each call on a book: its answer, and all memory after it. Assumes nothing.
 use Rattle.std.specs.Prelude.{ℕ, ◌+◌, ◌-◌, ◌*◌, ◌/◌, ◌%◌, cond, not, ◌||◌, List, [], ◌∷◌, map, length, get_or, take, drop, replicate, pos, ◌+ℤ◌, Some, None, Ok, Err, Option, Result, ◌==◌, nat_lt, slice_index, slice_index_or, slice_set}
-use Rattle.std.specs.List.{range_with_len}
+use Rattle.std.specs.List.{range_with_len, list_all}
 use Rattle.std.specs.Int.{int_wrap, w64}
 use Rattle.tally.specs.declared.peak.Peak.{Peak}
 use Rattle.tally.specs.Money.{money_of}
@@ -8,17 +8,18 @@ use Rattle.tally.specs.Energy.{energy_of}
 use Rattle.tally.specs.Pair.{pair_of}
 use Rattle.tally.specs.Peak.{peak_of, no_peak, peak_joined}
 use Rattle.tally.specs.Total.{total}
-use Rattle.book.specs.declared.lines.Line.{Line}
+use Rattle.settlement.specs.declared.lines.Line.{Line}
 use Rattle.book.specs.declared.months.MonthFigures.{MonthFigures}
 use Rattle.book.specs.declared.statements.Statement.{Statement}
-use Rattle.book.specs.declared.faults.BookFault.{BookFault}
-use Rattle.book.specs.declared.faults.BookFault.TheVariants.{OutsideBook, NoCarrier, FreeHour}
-use Rattle.book.specs.Agents.{agent_fits}
-use Rattle.book.specs.Faults.{met_if, first_met, of_posting, answer_of}
-use Rattle.book.specs.Hour.{Figures, hour_of}
-use Rattle.book.specs.Memory.{Memory, Holding, no_holding, holding_joined, holding_undone, all_of, size_fault, stored_fault}
+use Rattle.settlement.specs.declared.faults.BookFault.{BookFault}
+use Rattle.settlement.specs.declared.faults.BookFault.TheVariants.{OutsideBook, NoCarrier, FreeHour}
+use Rattle.settlement.specs.Agents.{agent_fits}
+use Rattle.settlement.specs.Faults.{met_if, first_met, of_posting, answer_of}
+use Rattle.settlement.specs.Hour.{Figures, own_of}
+use Rattle.settlement.specs.Holdings.{Holding, no_holding, holding_joined, holding_undone, entry_of}
+use Rattle.book.specs.Memory.{Memory, size_fault, stored_fault}
 use Rattle.book.specs.Months.{hours_of, size_known}
-use Rattle.book.specs.PostingFaults.{hour_fault, line_fault, uncarried}
+use Rattle.settlement.specs.PostingFaults.{hour_fault, line_fault, uncarried}
 
 -- what a call comes to: its answer, and all memory after it
 pub record Outcome (X : Type 0) : Type 0 where
@@ -40,7 +41,7 @@ outcome (Some fault) x before after = record { answer = Err fault; memory = befo
 abbrev pub open_fault : MonthFigures → Memory → Option BookFault
 open_fault f m =
     first_met (met_if (not (size_known f)) OutsideBook ∷ size_fault f.agents (hours_of f.days) m
-    ∷ met_if (nat_lt 6 f.weekday || not (all_of agent_fits m.agents)) OutsideBook ∷ [])
+    ∷ met_if (nat_lt 6 f.weekday || not (list_all agent_fits m.agents)) OutsideBook ∷ [])
 
 -- all lines, energies, marks and contract places empty
 abbrev pub emptied : Memory → Memory
@@ -84,10 +85,6 @@ rewritten hours hour mark new m = record {
 
 -- ---- posting
 
--- the entry of an agent's figures
-abbrev pub entry_of : Figures → Holding
-entry_of f = pair_of (money_of f.market f.contract f.overcost (pos 0)) (energy_of f.injected f.withdrawn)
-
 -- the faults of a posting, in the order of the numbers
 abbrev pub post_fault : MonthFigures → (hour price : ℕ) → List Line → Memory → Option BookFault
 post_fault f hour price lines m =
@@ -98,7 +95,7 @@ post_fault f hour price lines m =
 abbrev pub posted : MonthFigures → (hour price : ℕ) → List Line → Memory → Outcome (Unit {0})
 posted f hour price lines m =
     outcome (post_fault f hour price lines m) tt m
-    (rewritten (hours_of f.days) hour 1 (λ i. entry_of (hour_of m.agents price lines i)) m)
+    (rewritten (hours_of f.days) hour 1 (λ i. entry_of (own_of m.agents price lines i)) m)
 
 -- ---- withdrawal
 

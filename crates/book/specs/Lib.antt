@@ -1,9 +1,4 @@
-pub mod Agents
-pub mod Lines
-pub mod Faults
 pub mod Months
-pub mod Sums
-pub mod Hour
-pub mod PostingFaults
 pub mod Memory
+pub mod Lent
 pub mod Calls

@@ -1,33 +1,13 @@
 -- The memory of a book that the host lends, and what a call finds wrong in it. Assumes nothing.
-use Rattle.std.specs.Prelude.{ℕ, ◌*◌, Bool, true, not, ◌&&◌, List, [], ◌∷◌, length, sum_by, Option, ◌==◌, nat_le}
-use Rattle.tally.specs.declared.money.Money.{Money}
-use Rattle.tally.specs.declared.energy.Energy.{Energy}
-use Rattle.tally.specs.declared.pair.Pair.{Pair}
-use Rattle.tally.specs.Money.{no_money, money_joined, money_undone}
-use Rattle.tally.specs.Energy.{no_energy, energy_joined, energy_undone}
-use Rattle.tally.specs.Pair.{pair_of, pair_joined, pair_undone}
+use Rattle.std.specs.Prelude.{ℕ, ◌*◌, Bool, not, ◌&&◌, List, length, sum_by, Option, ◌==◌, nat_le}
+use Rattle.std.specs.List.{list_all}
 use Rattle.forms.specs.declared.Contract.{Contract}
-use Rattle.book.specs.declared.agents.Agent.{Agent}
-use Rattle.book.specs.declared.faults.BookFault.{BookFault}
-use Rattle.book.specs.declared.faults.BookFault.TheVariants.{WrongSize, StoredOutside}
-use Rattle.book.specs.Agents.{agent_fits}
-use Rattle.book.specs.Faults.{met_if}
-
--- an account, and an entry, hold money and energy
-abbrev pub Holding : Type 0
-Holding = Pair Money Energy
-
--- an empty one
-abbrev pub no_holding : Holding
-no_holding = pair_of no_money no_energy
-
--- two together
-abbrev pub holding_joined : Holding → Holding → Holding
-holding_joined = pair_joined money_joined energy_joined
-
--- what takes one off again
-abbrev pub holding_undone : Holding → Holding
-holding_undone = pair_undone money_undone energy_undone
+use Rattle.settlement.specs.declared.agents.Agent.{Agent}
+use Rattle.settlement.specs.declared.faults.BookFault.{BookFault}
+use Rattle.settlement.specs.declared.faults.BookFault.TheVariants.{WrongSize, StoredOutside}
+use Rattle.settlement.specs.Agents.{agent_fits}
+use Rattle.settlement.specs.Faults.{met_if}
+use Rattle.settlement.specs.Holdings.{Holding}
 
 -- all memory of a book: a record and an account per agent, the contract places, a mark per hour, and an entry per agent and hour,
 -- agent after agent
@@ -44,11 +24,6 @@ sized count hours m =
     (length m.agents == count) && (length m.accounts == count && (length m.contracts == 64
     && (length m.marks == hours && length m.entries == count * hours)))
 
--- every one of a list passes a test
-abbrev pub all_of : {X : Type 0} → (X → Bool) → List X → Bool
-all_of test [] = true
-all_of test (x ∷ xs) = test x && all_of test xs
-
 -- a mark is 0, free, or 1, posted
 abbrev pub mark_fits : ℕ → Bool
 mark_fits mark = nat_le mark 1
@@ -64,8 +39,8 @@ all_withdrawn accounts = sum_by (λ account. account.second.withdrawn) accounts
 -- stored figures are within their limits: entries 4,000,000 kWh, accounts 2,976,000,000, and so all withdrawn energy together
 abbrev pub stored_fits : Memory → Bool
 stored_fits m =
-    all_of agent_fits m.agents && (all_of mark_fits m.marks && (all_of (energy_within 4000000) m.entries
-    && (all_of (energy_within 2976000000) m.accounts && nat_le (all_withdrawn m.accounts) 2976000000)))
+    list_all agent_fits m.agents && (list_all mark_fits m.marks && (list_all (energy_within 4000000) m.entries
+    && (list_all (energy_within 2976000000) m.accounts && nat_le (all_withdrawn m.accounts) 2976000000)))
 
 -- 1: memory of the wrong size
 abbrev pub size_fault : (count hours : ℕ) → Memory → Option BookFault

@@ -1,5 +1,6 @@
 -- The month: its figures and its hours. Assumes nothing.
 use Rattle.std.specs.Prelude.{ℕ, ◌*◌, Bool, ◌&&◌, Ok, Err, Result, nat_le}
+use Rattle.calendar.specs.Weekdays.{number_of}
 use Rattle.book.specs.declared.months.OpenMonth.{OpenMonth}
 use Rattle.book.specs.declared.months.MonthFigures.{MonthFigures}
 
@@ -9,7 +10,7 @@ month_figures agents days weekday = record { agents = agents; days = days; weekd
 
 -- the figures of a month
 abbrev pub figures_of : OpenMonth → MonthFigures
-figures_of month = record { agents = month.agents; days = month.days; weekday = month.weekday }
+figures_of month = record { agents = month.agents; days = month.days; weekday = number_of month.first }
 
 -- an opening's answer, by the figures of the month that it gives
 abbrev pub opened_as : {F : Type 0} → Result OpenMonth F → Result MonthFigures F

@@ -1,22 +1,17 @@
-//! Posting and withdrawing an hour.
+//! Posting an hour, and withdrawing it.
 ghost use Rattle.std.specs.Prelude.{◌≡◌, ◌*◌, length};
-ghost use Rattle.book.specs.Calls.{outcome_of, posted, withdrawn, entries_with, accounts_with, entry_of};
-ghost use Rattle.book.specs.Hour.{hour_of};
-ghost use Rattle.book.specs.Memory.{memory_of};
+ghost use Rattle.settlement.specs.Holdings.{entry_of};
+ghost use Rattle.settlement.specs.Hour.{own_of};
+ghost use Rattle.settlement.specs.PostingFaults.{Measured};
+ghost use Rattle.book.specs.Calls.{outcome_of, posted, withdrawn, entries_with, accounts_with};
+ghost use Rattle.book.specs.Lent.{memory_in, SameLoan};
 ghost use Rattle.book.specs.Months.{figures_of, hours_of};
-ghost use Rattle.book.specs.PostingFaults.{Measured};
 
-use crate::agents::Agent;
-use crate::faults::BookFault;
-use crate::holdings::{Account, Entry};
-use crate::hours::{check_carriers, fill_entries};
-use crate::lines::Line;
-use crate::memory::check_memory;
+use crate::memory::{Ledger, Pool};
 use crate::months::OpenMonth;
-use crate::postings::{check_hour, check_posting};
 use crate::rewrites::replace_hour;
 use calendar::HourStamp;
-use forms::Contract;
+use settlement::{Account, Agent, BookFault, Entry, Line, check_carriers, fill_entries};
 use tally::{Pair, Tally};
 
 /// The mark of an hour at which nothing stands.
@@ -40,8 +35,8 @@ fn write_posting(
     requires fresh_long { length fresh.old ≡ length lines.now }
     requires accounts_long { length accounts.old ≡ length lines.now }
     requires entries_long { length entries.old ≡ length lines.now * hours_of stamp.days }
-    ensures entries { entries.new ≡ entries_with (hours_of stamp.days) stamp.hour (λ i. entry_of (hour_of agents.now price lines.now i)) entries.old }
-    ensures accounts { accounts.new ≡ accounts_with (hours_of stamp.days) stamp.hour (λ i. entry_of (hour_of agents.now price lines.now i)) entries.old accounts.old }
+    ensures entries { entries.new ≡ entries_with (hours_of stamp.days) stamp.hour (λ i. entry_of (own_of agents.now price lines.now i)) entries.old }
+    ensures accounts { accounts.new ≡ accounts_with (hours_of stamp.days) stamp.hour (λ i. entry_of (own_of agents.now price lines.now i)) entries.old accounts.old }
 {
     let count = lines.len();
     let mut parts = [0u64; 64];
@@ -55,17 +50,15 @@ pub fn post(
     hour: u32,
     price: u32,
     lines: &[Line],
-    agents: &[Agent],
-    accounts: &mut [Account],
-    contracts: &[Option<Contract>],
-    marks: &mut [u8],
-    entries: &mut [Entry],
+    pool: &Pool<'_>,
+    ledger: &mut Ledger<'_>,
 ) -> Result<(), BookFault>
-    ensures { outcome_of result (memory_of agents.now accounts.new contracts.now marks.new entries.new) ≡ posted (figures_of month.now) hour price lines.now (memory_of agents.now accounts.old contracts.now marks.old entries.old) }
+    ensures lent { SameLoan ledger.old ledger.new }
+    ensures value { outcome_of result (memory_in pool.now ledger.new) ≡ posted (figures_of month.now) hour price lines.now (memory_in pool.now ledger.old) }
 {
-    check_memory(month, agents, accounts, contracts, marks, entries)?;
-    let stamp = check_posting(month, hour, price, lines, agents)?;
-    check_carriers(agents, price, lines)?;
+    ledger.view(pool).check(month)?;
+    let stamp = month.check_posting(hour, price, lines, pool.agents)?;
+    check_carriers(pool.agents, price, lines)?;
     let count = lines.len();
     let nothing: Entry = Pair::neutral();
     let mut fresh = [nothing; 64];
@@ -73,12 +66,12 @@ pub fn post(
         stamp,
         price,
         lines,
-        agents,
+        pool.agents,
         &mut fresh[0..count],
-        accounts,
-        entries,
+        ledger.accounts,
+        ledger.entries,
     );
-    marks[hour as usize] = POSTED;
+    ledger.marks[hour as usize] = POSTED;
     Ok(())
 }
 
@@ -86,22 +79,25 @@ pub fn post(
 pub fn withdraw(
     month: &OpenMonth,
     hour: u32,
-    agents: &[Agent],
-    accounts: &mut [Account],
-    contracts: &[Option<Contract>],
-    marks: &mut [u8],
-    entries: &mut [Entry],
+    pool: &Pool<'_>,
+    ledger: &mut Ledger<'_>,
 ) -> Result<(), BookFault>
-    ensures { outcome_of result (memory_of agents.now accounts.new contracts.now marks.new entries.new) ≡ withdrawn (figures_of month.now) hour (memory_of agents.now accounts.old contracts.now marks.old entries.old) }
+    ensures lent { SameLoan ledger.old ledger.new }
+    ensures value { outcome_of result (memory_in pool.now ledger.new) ≡ withdrawn (figures_of month.now) hour (memory_in pool.now ledger.old) }
 {
-    check_memory(month, agents, accounts, contracts, marks, entries)?;
-    let stamp = check_hour(month, hour)?;
-    if marks[hour as usize] == FREE {
+    ledger.view(pool).check(month)?;
+    let stamp = month.check_hour(hour)?;
+    if ledger.marks[hour as usize] == FREE {
         return Err(BookFault::FreeHour(hour));
     }
     let nothing: Entry = Pair::neutral();
     let fresh = [nothing; 64];
-    replace_hour(stamp, &fresh[0..agents.len()], accounts, entries);
-    marks[hour as usize] = FREE;
+    replace_hour(
+        stamp,
+        &fresh[0..pool.agents.len()],
+        ledger.accounts,
+        ledger.entries,
+    );
+    ledger.marks[hour as usize] = FREE;
     Ok(())
 }

@@ -1,11 +1,11 @@
 //! An hour written anew: entries hold the result, and accounts lose the old entry and gain the new.
 ghost use Rattle.std.specs.Prelude.{◌≡◌, ◌*◌, ◌≤◌, length, slice_index_or};
 ghost use Rattle.book.specs.Calls.{entries_with, accounts_with};
-ghost use Rattle.book.specs.Memory.{no_holding, holding_joined, holding_undone};
+ghost use Rattle.settlement.specs.Holdings.{no_holding, holding_joined, holding_undone};
 ghost use Rattle.book.specs.Months.{hours_of};
 
-use crate::holdings::{Account, Entry};
 use calendar::HourStamp;
+use settlement::{Account, Entry};
 use tally::update;
 
 /// Gives an entry its new value: its account loses the old one and gains the new.

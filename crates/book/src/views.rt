@@ -5,16 +5,14 @@ ghost use Rattle.std.specs.Int.{int_wrap, w64};
 ghost use Rattle.tally.specs.Peak.{peak_of};
 ghost use Rattle.tally.specs.Total.{total};
 ghost use Rattle.book.specs.Calls.{stated, day_stated, statement_of, peak_over};
-ghost use Rattle.book.specs.Memory.{memory_of, no_holding, holding_joined};
+ghost use Rattle.settlement.specs.Holdings.{no_holding, holding_joined};
+ghost use Rattle.book.specs.Lent.{memory_seen};
 ghost use Rattle.book.specs.Months.{figures_of};
 
-use crate::agents::Agent;
-use crate::faults::BookFault;
-use crate::holdings::{Account, Entry};
-use crate::memory::check_memory;
+use crate::memory::View;
 use crate::months::OpenMonth;
 use crate::statements::Statement;
-use forms::Contract;
+use settlement::{Account, BookFault, Entry};
 use tally::{Money, Peak, Tally, fold};
 
 /// The most hours of a month.
@@ -80,23 +78,19 @@ fn statement(account: Account, peak: Peak) -> Statement
 pub fn provisional(
     month: &OpenMonth,
     agent: u32,
-    agents: &[Agent],
-    accounts: &[Account],
-    contracts: &[Option<Contract>],
-    marks: &[u8],
-    entries: &[Entry],
+    view: &View<'_, '_>,
 ) -> Result<Statement, BookFault>
-    ensures { result ≡ stated (figures_of month.now) agent (memory_of agents.now accounts.now contracts.now marks.now entries.now) }
+    ensures { result ≡ stated (figures_of month.now) agent (memory_seen view.now) }
 {
-    check_memory(month, agents, accounts, contracts, marks, entries)?;
+    view.check(month)?;
     let figures = month.figures();
     if agent == 0 || agent > figures.agents {
         return Err(BookFault::OutsideBook);
     }
     let index = (agent - 1) as usize;
     let hours = 24 * figures.days as usize;
-    let peak = month_peak(entries, index * hours, hours);
-    Ok(statement(accounts[index], peak))
+    let peak = month_peak(view.entries, index * hours, hours);
+    Ok(statement(view.accounts[index], peak))
 }
 
 /// The total of the twenty-four entries from `first` on.
@@ -112,20 +106,16 @@ pub fn day_total(
     month: &OpenMonth,
     agent: u32,
     day: u32,
-    agents: &[Agent],
-    accounts: &[Account],
-    contracts: &[Option<Contract>],
-    marks: &[u8],
-    entries: &[Entry],
+    view: &View<'_, '_>,
 ) -> Result<Entry, BookFault>
-    ensures { result ≡ day_stated (figures_of month.now) agent day (memory_of agents.now accounts.now contracts.now marks.now entries.now) }
+    ensures { result ≡ day_stated (figures_of month.now) agent day (memory_seen view.now) }
 {
-    check_memory(month, agents, accounts, contracts, marks, entries)?;
+    view.check(month)?;
     let figures = month.figures();
     if agent == 0 || agent > figures.agents || day == 0 || day > figures.days {
         return Err(BookFault::OutsideBook);
     }
     let hours = 24 * figures.days as usize;
     let first = (agent - 1) as usize * hours + 24 * (day - 1) as usize;
-    Ok(day_from(entries, first))
+    Ok(day_from(view.entries, first))
 }

@@ -1,4 +1,5 @@
 -- Sums over the agents, the lines, the hours or the contract places, and tests of a whole list. Places are counted from 0. Assumes nothing.
+use Rattle.std.specs.List.{list_all}
 use Rattle.std.specs.Prelude.{ℕ, zero, suc, ◌+◌, Bool, true, cond, ◌&&◌, List, [], ◌∷◌, ℤ, pos, ◌+ℤ◌, Some, None, Option}
 
 -- f 0 + … + f (n − 1)
@@ -23,5 +24,4 @@ sum_of f (x ∷ xs) = f x +ℤ sum_of f xs
 
 -- every one of a list passes a test
 abbrev pub all_of : {X : Type 0} → (X → Bool) → List X → Bool
-all_of test [] = true
-all_of test (x ∷ xs) = test x && all_of test xs
+all_of test xs = list_all test xs

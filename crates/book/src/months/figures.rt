@@ -1,23 +1,27 @@
 //! The figures of a month.
-ghost use Rattle.std.specs.Prelude.{◌≡◌, ◌≤◌};
-ghost use Rattle.book.specs.Months.{figures_of, month_figures};
+ghost use Rattle.std.specs.Prelude.{◌≡◌, ◌≤◌, IfOk, OnOk, length};
+ghost use Rattle.std.specs.Result.{result_err};
+ghost use Rattle.calendar.specs.Weekdays.{number_of};
+ghost use Rattle.settlement.specs.PostingFaults.{hour_fault, line_fault, Measured};
+ghost use Rattle.book.specs.Months.{figures_of, month_figures, hours_of};
 
 use crate::months::{MonthFigures, OpenMonth};
+use calendar::{HourStamp, Weekday};
+use settlement::{Agent, Line, LineFault, check_hour, check_posting};
 
 impl OpenMonth {
     /// A month with these figures: for an accepted opening alone.
-    pub(crate) fn new(agents: u32, days: u32, weekday: u32) -> OpenMonth
+    pub(crate) fn new(agents: u32, days: u32, first: Weekday) -> OpenMonth
         requires some_agents { 1 ≤ agents }
         requires few_agents { agents ≤ 64 }
         requires some_days { 1 ≤ days }
         requires few_days { days ≤ 31 }
-        requires known_weekday { weekday ≤ 6 }
-        ensures { figures_of result ≡ month_figures agents days weekday }
+        ensures { figures_of result ≡ month_figures agents days (number_of first) }
     {
         OpenMonth {
             agents,
             days,
-            weekday,
+            first,
         }
     }
 
@@ -28,7 +32,7 @@ impl OpenMonth {
         MonthFigures {
             agents: self.agents,
             days: self.days,
-            weekday: self.weekday,
+            weekday: self.first.number(),
         }
     }
 
@@ -40,8 +44,33 @@ impl OpenMonth {
         let OpenMonth {
             agents: _,
             days: _,
-            weekday: _,
+            first: _,
         } = self;
         figures
+    }
+
+    /// The stamp of one of its hours, or a refusal where the hour lies outside.
+    pub(crate) fn check_hour(&self, hour: u32) -> Result<HourStamp, LineFault>
+        ensures fault { result_err result ≡ hour_fault (hours_of self.now.days) hour }
+        ensures stamp { IfOk result (λ s. (s.hour ≡ hour) × (s.days ≡ self.now.days)) }
+    {
+        check_hour(self.days, hour)
+    }
+
+    /// The stamp of a posting's hour, or the first fault of its own figures.
+    pub(crate) fn check_posting(
+        &self,
+        hour: u32,
+        price: u32,
+        lines: &[Line],
+        agents: &[Agent],
+    ) -> Result<HourStamp, LineFault>
+        requires { length agents.now ≡ self.now.agents }
+        ensures fault { result_err result ≡ line_fault self.now.agents (hours_of self.now.days) agents.now hour price lines.now }
+        ensures stamp { IfOk result (λ s. (s.hour ≡ hour) × (s.days ≡ self.now.days)) }
+        ensures long { OnOk result (length lines.now ≡ self.now.agents) }
+        ensures measured { OnOk result (Measured price lines.now) }
+    {
+        check_posting(self.agents, self.days, hour, price, lines, agents)
     }
 }

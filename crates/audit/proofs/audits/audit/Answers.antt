@@ -5,7 +5,7 @@ use Rattle.book.specs.declared.months.MonthFigures.{MonthFigures}
 use Rattle.book.specs.Calls.{open_fault, emptied}
 use Rattle.book.specs.Memory.{Memory, memory_of}
 use Rattle.book.specs.Months.{month_figures, figures_of}
-use Rattle.book.specs.Sums.{sum_to_ℤ}
+use Rattle.settlement.specs.Sums.{sum_to_ℤ}
 use Rattle.audit.specs.Audits.{lent_of}
 use Rattle.audit.specs.Reading.{request_of, reply_of}
 use Rattle.audit.specs.Runs.{memory_after}

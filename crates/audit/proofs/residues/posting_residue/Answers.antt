@@ -1,8 +1,8 @@
 use Rattle.std.proofs.Common.{◌≡◌, ℕ, ◌≤◌, length, pos, ◌-ℤ◌, nat_abs, ap, ◌∙◌, arith, w64, to_z, of_z}
 use Rattle.std.proofs.lemmas.Int.{ints}
-use Rattle.book.specs.Hour.{line_at, injected_amount, withdrawn_amount}
-use Rattle.book.specs.Sums.{sum_to}
-use Rattle.book.proofs.Sums.{sum_to_more}
+use Rattle.settlement.specs.Hour.{line_at, injected_amount, withdrawn_amount}
+use Rattle.settlement.specs.Sums.{sum_to}
+use Rattle.settlement.proofs.Sums.{sum_to_more}
 use Rattle.audit.proofs.residues.posting_residue.Goals as goal
 
 -- a difference of two sums that are not large

@@ -1,6 +1,6 @@
 use Rattle.std.proofs.Common.{◌≡◌, ◌*◌, ◌≤◌}
-use Rattle.book.specs.Hour.{line_at, injected_amount, withdrawn_amount}
-use Rattle.book.specs.Sums.{sum_to}
+use Rattle.settlement.specs.Hour.{line_at, injected_amount, withdrawn_amount}
+use Rattle.settlement.specs.Sums.{sum_to}
 use Rattle.audit.proofs.residues.posting_residue.Given as goal
 
 abbrev pub invariant-loop-line : goal.invariant-loop-line

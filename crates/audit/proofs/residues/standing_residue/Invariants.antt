@@ -1,5 +1,5 @@
 use Rattle.std.proofs.Common.{◌≡◌, ◌*◌, ◌≤◌, map, pos, nat_abs}
-use Rattle.book.specs.Sums.{sum_to_ℤ}
+use Rattle.settlement.specs.Sums.{sum_to_ℤ}
 use Rattle.audit.specs.Reading.{request_of, reply_of}
 use Rattle.audit.specs.Told.{residue_told}
 use Rattle.audit.proofs.residues.standing_residue.Given as goal

@@ -1,5 +1,5 @@
 use Rattle.std.proofs.Common.{◌≡◌, ◌*◌, ◌≤◌, nat_abs}
-use Rattle.book.specs.Sums.{sum_to_ℤ}
+use Rattle.settlement.specs.Sums.{sum_to_ℤ}
 use Rattle.audit.specs.Runs.{balance_at}
 use Rattle.audit.proofs.totals.balances_together.Given as goal
 

@@ -1,8 +1,8 @@
 use Rattle.std.proofs.Common.{◌≡◌, ℕ, ◌<◌, length, get_or, ap, ◌∙◌, arith}
 use Rattle.std.proofs.lemmas.List.FromFn.{get_or-map-range_with_len}
-use Rattle.book.specs.Calls.{entry_of}
-use Rattle.book.specs.Hour.{hour_of}
-use Rattle.book.specs.Memory.{Holding, no_holding}
+use Rattle.settlement.specs.Holdings.{entry_of}
+use Rattle.settlement.specs.Hour.{own_of}
+use Rattle.settlement.specs.Holdings.{Holding, no_holding}
 use Rattle.book.specs.Months.{hours_of}
 use Rattle.book.proofs.Columns.{entries_with_same, accounts_with_same}
 use Rattle.book.proofs.posting.write_posting.Goals as goal
@@ -12,7 +12,7 @@ returns c =
     let stamp = c.args.stamp in
     let hours = hours_of stamp.days in
     let n = length c.args.lines.now in
-    let new : ℕ → Holding = λ i. entry_of (hour_of c.args.agents.now c.args.price c.args.lines.now i) in
+    let new : ℕ → Holding = λ i. entry_of (own_of c.args.agents.now c.args.price c.args.lines.now i) in
     let fresh : ℕ → Holding = λ i. get_or c.fill_entries.new.fresh i no_holding in
     let same : (i : ℕ) → i < n → fresh i ≡ new i =
     λ i below. ap (λ es. get_or es i no_holding) c.fill_entries.ensures ∙ get_or-map-range_with_len new 0 n i i no_holding below (omega arith) in

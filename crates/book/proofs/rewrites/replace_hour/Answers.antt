@@ -1,7 +1,7 @@
 use Rattle.std.proofs.Common.{◌≡◌, ℕ, ◌+◌, ◌<◌, length, get_or, set, sym, ap, ◌∙◌, subst, arith}
 use Rattle.std.proofs.lemmas.List.{get_or_read}
 use Rattle.book.specs.Calls.{entry_place}
-use Rattle.book.specs.Memory.{Holding, no_holding, holding_joined, holding_undone}
+use Rattle.settlement.specs.Holdings.{Holding, no_holding, holding_joined, holding_undone}
 use Rattle.book.specs.Months.{hours_of}
 use Rattle.book.proofs.Columns.{place_within, Rewritten, Settled, account_after, rewritten_more, rewritten_old, rewritten_all, settled_more, settled_old, settled_all}
 use Rattle.book.proofs.rewrites.replace_hour.Goals as goal

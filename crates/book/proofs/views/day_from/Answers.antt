@@ -1,6 +1,6 @@
 use Rattle.std.proofs.Common.{◌≡◌, ◌+◌, ◌-◌, take, drop, ap, ◌∙◌, arith}
 use Rattle.tally.specs.Total.{total}
-use Rattle.book.specs.Memory.{no_holding, holding_joined}
+use Rattle.settlement.specs.Holdings.{no_holding, holding_joined}
 use Rattle.book.proofs.views.day_from.Goals as goal
 
 pub returns : goal.returns

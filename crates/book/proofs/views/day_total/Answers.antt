@@ -1,38 +1,38 @@
 use Rattle.std.proofs.Common.{◌≡◌, ◌+◌, ◌-◌, ◌*◌, ◌<◌, ◌≤◌, ◌||◌, eqb, ltb, length, None, sym, ap, ◌∙◌, subst, arith}
 use Rattle.std.proofs.lemmas.Result.{err_from_is_err_and}
 use Rattle.std.proofs.lemmas.Bool.{or_from, ne_eqb, le-ltb}
-use Rattle.book.specs.declared.faults.BookFault.TheVariants.{OutsideBook}
+use Rattle.settlement.specs.declared.faults.BookFault.TheVariants.{OutsideBook}
 use Rattle.book.specs.declared.months.MonthFigures.{MonthFigures}
 use Rattle.book.specs.Calls.{day_sum}
-use Rattle.book.specs.Faults.{met_if}
-use Rattle.book.specs.Memory.{memory_of}
+use Rattle.settlement.specs.Faults.{met_if}
+use Rattle.book.specs.Lent.{memory_seen}
 use Rattle.book.specs.Months.{figures_of}
 use Rattle.book.proofs.Columns.{day_within}
 use Rattle.book.proofs.Tables.{look_refused, look_accepted, entries_sized}
 use Rattle.book.proofs.views.day_total.Goals as goal
 
-pub returns-in_err-check_memory : goal.returns-in_err-check_memory
-returns-in_err-check_memory c =
-    let m = memory_of c.args.agents.now c.args.accounts.now c.args.contracts.now c.args.marks.now c.args.entries.now in
+pub returns-in_err-check : goal.returns-in_err-check
+returns-in_err-check c =
+    let m = memory_seen c.args.view.now in
     let p = err_from_is_err_and c.from_residual.result c.from_residual.ensures.1 in
-    rw (p.1, p.2) (look_refused (figures_of c.args.month.now) m _ _ _ c.in_err-check_memory.ensures)
+    rw (p.1, p.2) (look_refused (figures_of c.args.month.now) m _ _ _ c.in_err-check.ensures)
 
 pub day_from-requires : goal.day_from-requires
 day_from-requires c =
-    let m = memory_of c.args.agents.now c.args.accounts.now c.args.contracts.now c.args.marks.now c.args.entries.now in
+    let m = memory_seen c.args.view.now in
     let month = c.args.month.now in
     let i = c.args.agent - 1 in
     let day = c.args.day - 1 in
     let is = c.figures-figures.ensures in
     let inside : i < month.agents = omega (arith, ap (λ (f : MonthFigures). f.agents) is, c.if-agent-figures.false, c.if-agent-eq0.false) in
     let known : day < month.days = omega (arith, ap (λ (f : MonthFigures). f.days) is, c.if-day-figures.false, c.if-day-eq0.false) in
-    let size = entries_sized (figures_of month) m c.in_ok-check_memory.ensures in
-    let within : i * (24 * month.days) + 24 * day + 24 ≤ length c.args.entries.now = omega (arith, size, day_within month.days day month.agents i known inside) in
-    subst (λ (f : MonthFigures). i * (24 * f.days) + 24 * day + 24 ≤ length c.args.entries.now) (sym is) within
+    let size = entries_sized (figures_of month) m c.in_ok-check.ensures in
+    let within : i * (24 * month.days) + 24 * day + 24 ≤ length c.args.view.now.entries.now = omega (arith, size, day_within month.days day month.agents i known inside) in
+    subst (λ (f : MonthFigures). i * (24 * f.days) + 24 * day + 24 ≤ length c.args.view.now.entries.now) (sym is) within
 
 pub returns : goal.returns
 returns c =
-    let m = memory_of c.args.agents.now c.args.accounts.now c.args.contracts.now c.args.marks.now c.args.entries.now in
+    let m = memory_seen c.args.view.now in
     let month = c.args.month.now in
     let i = c.args.agent - 1 in
     let day = c.args.day - 1 in
@@ -42,5 +42,5 @@ returns c =
     let known : met_if ((eqb c.args.agent 0 || ltb month.agents c.args.agent) || (eqb c.args.day 0 || ltb month.days c.args.day)) OutsideBook ≡ None =
     ap (λ b. met_if b OutsideBook)
     (or_from _ _ (or_from _ _ (ne_eqb _ _ c.if-agent-eq0.false) (le-ltb _ _ agents_most)) (or_from _ _ (ne_eqb _ _ c.if-day-eq0.false) (le-ltb _ _ days_most))) in
-    look_accepted (figures_of month) m _ (day_sum (24 * month.days) i day c.args.entries.now) c.day_from.result c.in_ok-check_memory.ensures known
-    (c.day_from.ensures ∙ ap (λ (f : MonthFigures). day_sum (24 * f.days) i day c.args.entries.now) is)
+    look_accepted (figures_of month) m _ (day_sum (24 * month.days) i day c.args.view.now.entries.now) c.day_from.result c.in_ok-check.ensures known
+    (c.day_from.ensures ∙ ap (λ (f : MonthFigures). day_sum (24 * f.days) i day c.args.view.now.entries.now) is)

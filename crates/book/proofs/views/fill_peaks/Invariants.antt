@@ -1,6 +1,6 @@
 use Rattle.std.proofs.Common.{◌≡◌, ℕ, ◌<◌, get_or}
 use Rattle.tally.specs.Peak.{peak_of, no_peak}
-use Rattle.book.specs.Memory.{no_holding}
+use Rattle.settlement.specs.Holdings.{no_holding}
 use Rattle.book.proofs.views.fill_peaks.Given as goal
 
 abbrev pub invariant-loop-hour : goal.invariant-loop-hour

@@ -3,8 +3,8 @@ use Rattle.std.proofs.lemmas.List.{get_or-take, get_or-drop, length-take, length
 use Rattle.tally.specs.Total.{total}
 use Rattle.tally.specs.Peak.{peak_of, no_peak, peak_joined}
 use Rattle.book.specs.Calls.{peak_over}
-use Rattle.book.specs.Memory.{Holding, no_holding}
-use Rattle.book.proofs.Sums.{map_counting_same}
+use Rattle.settlement.specs.Holdings.{Holding, no_holding}
+use Rattle.settlement.proofs.Sums.{map_counting_same}
 use Rattle.book.proofs.views.month_peak.Goals as goal
 
 -- the peak of a part of the entries, by where the part lies

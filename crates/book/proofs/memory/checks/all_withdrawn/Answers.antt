@@ -2,9 +2,10 @@ use Rattle.std.proofs.Common.{◌≤◌, ap, ◌∙◌, arith}
 use Rattle.std.proofs.lemmas.List.{take_all}
 use Rattle.std.proofs.lemmas.List.Sums.{sum_by_more}
 use Rattle.std.proofs.lemmas.Bool.{and_parts, leb-true}
-use Rattle.book.specs.Memory.{Holding, energy_within, all_withdrawn}
-use Rattle.book.proofs.Checks.{all_each}
-use Rattle.book.proofs.memory.all_withdrawn.Goals as goal
+use Rattle.settlement.specs.Holdings.{Holding}
+use Rattle.book.specs.Memory.{energy_within, all_withdrawn}
+use Rattle.settlement.proofs.Checks.{all_each}
+use Rattle.book.proofs.memory.checks.all_withdrawn.Goals as goal
 
 -- the withdrawn energy of the account at hand is within its limit
 within : (c : goal.After-account-item) → c.account-item.result.second.withdrawn ≤ 2976000000
