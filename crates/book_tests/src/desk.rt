@@ -1,6 +1,7 @@
 //! Memory for a book of two agents and one day, with a place more of each kind, and one call on it.
 use book::{
-    Account, Agent, BookFault, Entry, Line, OpenMonth, day_total, open, post, provisional, withdraw,
+    Agent, BookFault, Entry, Ledger, Line, MonthFigures, OpenMonth, Pool, day_total, open, post,
+    provisional, withdraw,
 };
 use forms::Contract;
 use tally::{Energy, Money, Pair, Tally};
@@ -27,7 +28,6 @@ pub(crate) const RIGHT: Sizes = Sizes {
 /// A stored figure, changed between the opening and the call.
 #[derive(Clone, Copy)]
 pub(crate) enum Damage {
-    None,
     SecondAgent(Agent),
     LastMark(u8),
     LastEntry {
@@ -50,25 +50,31 @@ pub(crate) enum Trial {
     Day,
 }
 
-/// A refusal's number and place; 0 and 0 where the call is accepted.
+/// A refusal, by its number and place.
 #[derive(Clone, Copy, PartialEq, Eq, Debug)]
-pub(crate) struct Told {
+pub(crate) struct Refusal {
     pub(crate) number: u32,
     pub(crate) place: u32,
 }
 
-fn told_of<T: Drop>(answer: Result<T, BookFault>) -> Told {
-    match answer {
-        Ok(_) => Told {
-            number: 0,
-            place: 0,
-        },
-        Err(fault) => Told {
+impl From<BookFault> for Refusal {
+    fn from(fault: BookFault) -> Refusal {
+        Refusal {
             number: fault.number(),
             place: fault.place(),
-        },
+        }
     }
 }
+
+/// How a call was answered.
+pub(crate) type Told = Result<(), Refusal>;
+
+/// Two agents, one day, from a Sunday on.
+const FIGURES: MonthFigures = MonthFigures {
+    agents: 2,
+    days: 1,
+    weekday: 6,
+};
 
 const GENERATOR: Agent = Agent {
     role: 1,
@@ -102,7 +108,8 @@ fn energy_alone(injected: u64, withdrawn: u64) -> Entry {
     }
 }
 
-fn damage_accounts(accounts: &mut [Account; 3], damage: Damage) {
+/// Changes the stored figure, and nothing where that lies in other memory.
+fn damage_accounts(accounts: &mut [Entry; 3], damage: Damage) {
     if let Damage::Accounts {
         injected,
         first,
@@ -135,68 +142,54 @@ fn damage_rest(agents: &mut [Agent; 3], marks: &mut [u8; 25], damage: Damage) {
 fn call(
     month: &OpenMonth,
     trial: Trial,
-    agents: &[Agent],
-    accounts: &mut [Account],
-    contracts: &[Option<Contract>],
-    marks: &mut [u8],
-    entries: &mut [Entry],
-) -> Told {
+    pool: &Pool<'_>,
+    ledger: &mut Ledger<'_>,
+) -> Result<(), BookFault> {
     match trial {
-        Trial::Post => told_of(post(
-            month,
-            23,
-            50_000,
-            &[LINE, LINE],
-            agents,
-            accounts,
-            contracts,
-            marks,
-            entries,
-        )),
-        Trial::Withdraw => told_of(withdraw(month, 0, agents, accounts, contracts, marks, entries)),
-        Trial::Statement => told_of(provisional(
-            month, 2, agents, accounts, contracts, marks, entries,
-        )),
-        Trial::Day => told_of(day_total(month, 2, 1, agents, accounts, contracts, marks, entries)),
+        Trial::Post => post(month, 23, 50_000, &[LINE, LINE], pool, ledger),
+        Trial::Withdraw => withdraw(month, 0, pool, ledger),
+        Trial::Statement => {
+            provisional(month, 2, &ledger.view(pool))?;
+            Ok(())
+        }
+        Trial::Day => {
+            day_total(month, 2, 1, &ledger.view(pool))?;
+            Ok(())
+        }
     }
 }
 
 /// Opens a book, damages its memory, lends so much of it to a call, and tells how the call was answered.
-pub(crate) fn tried(sizes: Sizes, damage: Damage, trial: Trial) -> Told {
+pub(crate) fn tried(sizes: Sizes, damage: Option<Damage>, trial: Trial) -> Told {
     let nothing: Entry = Pair::neutral();
     let mut agents = [GENERATOR, DISTRIBUTOR, DISTRIBUTOR];
     let mut accounts = [nothing; 3];
     let mut contracts: [Option<Contract>; 65] = [None; 65];
     let mut marks = [1u8; 25];
     let mut entries = [nothing; 49];
-    let opened = open(
-        2,
-        1,
-        6,
-        &agents[0..2],
-        &mut accounts[0..2],
-        &mut contracts[0..64],
-        &mut marks[0..24],
-        &mut entries[0..48],
-    );
-    match opened {
-        Err(fault) => told_of::<()>(Err(fault)),
-        Ok(month) => {
-            marks[0] = 1;
-            damage_accounts(&mut accounts, damage);
-            damage_entries(&mut entries, damage);
-            damage_rest(&mut agents, &mut marks, damage);
-            let said = call(
-                &month,
-                trial,
-                &agents[0..sizes.agents.min(3)],
-                &mut accounts[0..sizes.accounts.min(3)],
-                &contracts[0..sizes.contracts.min(65)],
-                &mut marks[0..sizes.marks.min(25)],
-                &mut entries[0..sizes.entries.min(49)],
-            );
-            let _ = month.retire();
-            said
-        }
+    let mut right = Ledger {
+        accounts: &mut accounts[0..2],
+        marks: &mut marks[0..24],
+        entries: &mut entries[0..48],
+    };
+    let month = open(FIGURES, &agents[0..2], &mut contracts[0..64], &mut right)?;
+    drop(right);
+    marks[0] = 1;
+    if let Some(damage) = damage {
+        damage_accounts(&mut accounts, damage);
+        damage_entries(&mut entries, damage);
+        damage_rest(&mut agents, &mut marks, damage);
     }
+    let pool = Pool {
+        agents: &agents[0..sizes.agents.min(3)],
+        contracts: &contracts[0..sizes.contracts.min(65)],
+    };
+    let mut lent = Ledger {
+        accounts: &mut accounts[0..sizes.accounts.min(3)],
+        marks: &mut marks[0..sizes.marks.min(25)],
+        entries: &mut entries[0..sizes.entries.min(49)],
+    };
+    let said = call(&month, trial, &pool, &mut lent);
+    let _ = month.retire();
+    Ok(said?)
 }

@@ -1,27 +1,24 @@
-use crate::desk::{Damage, RIGHT, Sizes, Told, Trial, tried};
+use crate::desk::{Damage, RIGHT, Refusal, Sizes, Told, Trial, tried};
 use book::Agent;
 
 const CALLS: [Trial; 4] = [Trial::Post, Trial::Withdraw, Trial::Statement, Trial::Day];
 
-const ACCEPTED: Told = Told {
-    number: 0,
-    place: 0,
-};
+const ACCEPTED: Told = Ok(());
 
-const WRONG_SIZE: Told = Told {
+const WRONG_SIZE: Told = Err(Refusal {
     number: 1,
     place: 0,
-};
+});
 
-const STORED: Told = Told {
+const STORED: Told = Err(Refusal {
     number: 2,
     place: 0,
-};
+});
 
 #[test]
 fn right_memory_is_accepted(rt: HostRuntime) {
     for trial in CALLS {
-        assert_eq!(rt; tried(RIGHT, Damage::None, trial), ACCEPTED);
+        assert_eq!(rt; tried(RIGHT, None, trial), ACCEPTED);
     }
 }
 
@@ -59,7 +56,7 @@ fn memory_of_another_size_is_refused(rt: HostRuntime) {
     ];
     for size in sizes {
         for trial in CALLS {
-            assert_eq!(rt; tried(size, Damage::None, trial), WRONG_SIZE);
+            assert_eq!(rt; tried(size, None, trial), WRONG_SIZE);
         }
     }
 }
@@ -119,7 +116,7 @@ fn stored_figures_outside_their_limits_are_refused(rt: HostRuntime) {
     ];
     for damage in damages {
         for trial in CALLS {
-            assert_eq!(rt; tried(RIGHT, damage, trial), STORED);
+            assert_eq!(rt; tried(RIGHT, Some(damage), trial), STORED);
         }
     }
 }
@@ -150,7 +147,7 @@ fn stored_figures_at_their_limits_are_accepted(rt: HostRuntime) {
     ];
     for damage in damages {
         for trial in CALLS {
-            assert_eq!(rt; tried(RIGHT, damage, trial), ACCEPTED);
+            assert_eq!(rt; tried(RIGHT, Some(damage), trial), ACCEPTED);
         }
     }
 }
@@ -159,7 +156,7 @@ fn stored_figures_at_their_limits_are_accepted(rt: HostRuntime) {
 fn a_wrong_size_is_answered_before_a_stored_figure(rt: HostRuntime) {
     for trial in CALLS {
         assert_eq!(rt;
-            tried(Sizes { marks: 23, ..RIGHT }, Damage::LastMark(2), trial),
+            tried(Sizes { marks: 23, ..RIGHT }, Some(Damage::LastMark(2)), trial),
             WRONG_SIZE
         );
     }
