@@ -1,5 +1,7 @@
 -- The days of the week. Assumes nothing.
-use Rattle.std.specs.Prelude.{ℕ, ◌+◌, ◌/◌, ◌%◌, Bool, cond, Some, None, Option, ◌==◌, nat_lt}
+use Rattle.std.specs.Prelude.{ℕ, ◌+◌, ◌/◌, ◌%◌, Bool, cond, Some, None, Option, ◌==◌, nat_lt, List, ◌++◌, codes}
+use Rattle.std.specs.Fmt.{decimal}
+use Rattle.calendar.specs.declared.weekdays.NoSuchWeekday.{NoSuchWeekday}
 use Rattle.calendar.specs.declared.weekdays.Weekday.{Weekday}
 use Rattle.calendar.specs.declared.weekdays.Weekday.TheVariants.{Monday, Tuesday, Wednesday, Thursday, Friday, Saturday, Sunday}
 
@@ -30,3 +32,7 @@ workday weekday = nat_lt (number_of weekday) 5
 -- The weekday of an hour that begins so many hours after the first midnight of a month, whose first day is `first`.
 abbrev pub weekday_in : (first : Weekday) (hour : ℕ) → Weekday
 weekday_in first hour = weekday_at ((number_of first + hour / 24) % 7)
+
+-- What is printed of a number that no weekday has.
+abbrev pub no_such_weekday_text : NoSuchWeekday → List ℕ
+no_such_weekday_text refused = codes "no weekday has the number " ++ decimal refused.number

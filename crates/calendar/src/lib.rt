@@ -10,4 +10,4 @@ mod weekdays;
 pub use bands::Band;
 pub use bands::table::band_of;
 pub use stamp::HourStamp;
-pub use weekdays::Weekday;
+pub use weekdays::{NoSuchWeekday, Weekday};

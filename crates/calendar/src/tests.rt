@@ -1,5 +1,5 @@
 // The week's bands at their edges, and the hours of months that begin on different days.
-use crate::{Band, HourStamp, Weekday, band_of};
+use crate::{Band, HourStamp, NoSuchWeekday, Weekday, band_of};
 use std::test::Fail;
 
 #[test]
@@ -57,8 +57,8 @@ fn hours_of_a_month(rt: HostRuntime) -> Result<(), Fail> {
         assert_eq!(rt; stamp.hour_of_day(), hour_of_day);
         assert_eq!(rt; stamp.band(first), band);
     }
-    assert_eq!(rt; Weekday::from_number(6), Some(Weekday::Sunday));
-    assert_eq!(rt; Weekday::from_number(7), None);
+    assert_eq!(rt; Weekday::try_from(6), Ok(Weekday::Sunday));
+    assert_eq!(rt; Weekday::try_from(7), Err(NoSuchWeekday { number: 7 }));
     assert_eq!(rt; Weekday::Saturday.number(), 5);
     Ok(())
 }

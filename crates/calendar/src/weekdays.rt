@@ -12,3 +12,9 @@ pub enum Weekday {
     Saturday,
     Sunday,
 }
+
+/// A number that no weekday has.
+#[derive(Clone, Copy, PartialEq, Eq, Debug)]
+pub struct NoSuchWeekday {
+    pub number: u32,
+}

@@ -1,6 +1,5 @@
 -- What the laws of a tally give of totals. Assumes nothing.
-use Rattle.std.proofs.Common.{◌≡◌, ℕ, zero, suc, ◌+◌, ◌<◌, List, [], ◌∷◌, ◌++◌, length, get_or, take, drop, set, sym, ap, ◌∙◌, le_of_suc-le-suc, not-suc-le-zero, take-add}
-use Rattle.std.proofs.lemmas.List.{take_more}
+use Rattle.std.proofs.Common.{◌≡◌, ℕ, zero, suc, ◌<◌, List, [], ◌∷◌, ◌++◌, length, get_or, set, fold, sym, ap, ◌∙◌, le_of_suc-le-suc, not-suc-le-zero}
 use Rattle.tally.specs.Lawful.{Lawful}
 use Rattle.tally.specs.Total.{total}
 
@@ -13,15 +12,18 @@ module _ {T : Type 0} {nothing : T} {joined : T → T → T} (laws : Lawful noth
   total_append [] ys = sym (laws.identity (total nothing joined ys))
   total_append (x ∷ xs) ys = ap (joined x) (total_append xs ys) ∙ sym (laws.associative x (total nothing joined xs) (total nothing joined ys))
 
-  -- one item more
-  pub total_more : (xs : List T) (i : ℕ) (x : T) → i < length xs → x ≡ get_or xs i x → joined (total nothing joined (take i xs)) x ≡ total nothing joined (take (i + 1) xs)
-  total_more xs i x within read =
-      let pushed : take (i + 1) xs ≡ take i xs ++ (x ∷ []) = take_more xs i x within ∙ ap (λ y. take i xs ++ (y ∷ [])) (sym read) in
-      sym (ap (total nothing joined) pushed ∙ total_append (take i xs) (x ∷ []) ∙ ap (joined (total nothing joined (take i xs))) (right_identity x))
+  -- a part more, of what is left
+  pub total_next : (sum : T) (part rest : List T) → joined (joined sum (total nothing joined part)) (total nothing joined rest) ≡ joined sum (total nothing joined (part ++ rest))
+  total_next sum part rest = laws.associative sum (total nothing joined part) (total nothing joined rest) ∙ ap (joined sum) (sym (total_append part rest))
 
-  -- the total of a front, and of the part of length n after it
-  pub total_part : (n i : ℕ) (xs : List T) → joined (total nothing joined (take i xs)) (total nothing joined (take n (drop i xs))) ≡ total nothing joined (take (i + n) xs)
-  total_part n i xs = sym (ap (total nothing joined) (take-add i n xs) ∙ total_append (take i xs) (take n (drop i xs)))
+  -- items joined from the left, begun with a value
+  total_from : (x : T) (xs : List T) → fold joined x xs ≡ joined x (total nothing joined xs)
+  total_from x [] = sym (right_identity x)
+  total_from x (y ∷ xs) = total_from (joined x y) xs ∙ laws.associative x y (total nothing joined xs)
+
+  -- items joined from the left, begun with none, are their total
+  pub total_fold : (xs : List T) → fold joined nothing xs ≡ total nothing joined xs
+  total_fold xs = total_from nothing xs ∙ laws.identity (total nothing joined xs)
 
   -- to take a value out of a total that has it leaves the rest
   taken_out : (x out rest : T) → joined x out ≡ nothing → joined (joined x rest) out ≡ rest

@@ -11,11 +11,7 @@ const HOURS: usize = 24;
 pub fn fold<T: Tally + Copy>(items: &[T]) -> T
     ensures { result ≡ total T.nothing T.joined items.now }
 {
-    let mut sum = T::neutral();
-    for item in items {
-        sum = sum.join(*item);
-    }
-    sum
+    items.iter().fold(T::neutral(), |sum, item| sum.join(*item))
 }
 
 /// The account after one of its items changed from `old` to `new`.
@@ -30,9 +26,10 @@ pub fn update<T: Tally + Reversible + Copy>(account: T, old: T, new: T) -> T
 pub fn fold_day<T: Tally + Copy>(month: &[T], day: usize) -> T
     ensures { result ≡ total T.nothing T.joined (take 24 (drop (24 * day) month.now)) }
 {
-    let first = HOURS.saturating_mul(day).min(month.len());
-    let end = first.saturating_add(HOURS).min(month.len());
-    fold(&month[first..end])
+    match month.chunks(HOURS).nth(day) {
+        Some(hours) => fold(hours),
+        None => T::neutral(),
+    }
 }
 
 /// All of a month together, day by day.
@@ -40,8 +37,8 @@ pub fn fold_days<T: Tally + Copy>(month: &[T]) -> T
     ensures { result ≡ total T.nothing T.joined month.now }
 {
     let mut sum = T::neutral();
-    for day in 0..month.len().div_ceil(HOURS) {
-        sum = sum.join(fold_day(month, day));
+    for day in month.chunks(HOURS) {
+        sum = sum.join(fold(day));
     }
     sum
 }

@@ -9,6 +9,7 @@ pub trait Tally: Sized {
     ghost joined: { Self → Self → Self };
 
     /// The total of no values.
+    // Kept beside `Default`, whose value no law ties to `join`.
     fn neutral() -> Self
         ensures { result ≡ nothing };
 

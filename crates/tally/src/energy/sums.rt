@@ -5,6 +5,8 @@ ghost use Rattle.tally.specs.EnergyLaws.{energy_lawful};
 use crate::energy::Energy;
 use crate::traits::{Reversible, Tally};
 
+// Kept beside the impls of `Money`: their fields differ in number and type, so each would name its own under a trait for numbers too.
+#[tactic(auto, using(crate::specs::EnergyLaws::energy_same))]
 impl Tally for Energy {
     ghost nothing = { no_energy };
 
@@ -27,6 +29,7 @@ impl Tally for Energy {
     }
 }
 
+#[tactic(auto, using(crate::specs::EnergyLaws::energy_same, crate::specs::EnergyLaws::energy_cancels))]
 impl Reversible for Energy {
     ghost undone = { energy_undone };
 

@@ -5,6 +5,8 @@ ghost use Rattle.tally.specs.MoneyLaws.{money_lawful};
 use crate::money::Money;
 use crate::traits::{Reversible, Tally};
 
+// Kept beside the impls of `Energy`: their fields differ in number and type, so each would name its own under a trait for numbers too.
+#[tactic(auto, using(crate::specs::MoneyLaws::money_same, std::proofs::lemmas::Int::wraps))]
 impl Tally for Money {
     ghost nothing = { no_money };
 

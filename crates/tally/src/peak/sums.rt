@@ -5,7 +5,10 @@ ghost use Rattle.tally.specs.PeakLaws.{peak_lawful};
 
 use crate::peak::Peak;
 use crate::traits::Tally;
+use std::cmp;
+use std::cmp::Reverse;
 
+#[tactic(auto, using(crate::specs::PeakLaws::peak_same, std::proofs::lemmas::Bool::Decides::nat_tests))]
 impl Peak {
     /// The peak of one hour alone.
     pub fn of(kwh: u64, hour: u32) -> Peak
@@ -18,6 +21,7 @@ impl Peak {
     }
 }
 
+#[tactic(auto, using(crate::specs::PeakLaws::peak_same, std::proofs::lemmas::Bool::Decides::nat_tests))]
 impl Tally for Peak {
     ghost nothing = { no_peak };
 
@@ -30,10 +34,6 @@ impl Tally for Peak {
     }
 
     fn join(self, other: Peak) -> Peak {
-        if self.kwh < other.kwh || (self.kwh == other.kwh && other.hour < self.hour) {
-            other
-        } else {
-            self
-        }
+        cmp::max_by_key(self, other, |peak| (peak.kwh, Reverse(peak.hour)))
     }
 }
