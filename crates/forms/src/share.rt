@@ -6,7 +6,7 @@ ghost use Rattle.forms.specs.Kept.{share_keeps};
 
 use crate::form::ContractForm;
 use crate::market::market_legs;
-use crate::terms::{DISTRIBUTOR, GENERATOR};
+use crate::roles::Role;
 use crate::{Contract, Facts, Legs, Parties};
 
 /// Shares of what a generator injects, kind 2: a distributor's share of it is its share of what all distributors withdraw.
@@ -39,8 +39,8 @@ impl ContractForm for Share {
             && terms.peak == 0
             && terms.medium == 0
             && terms.base == 0
-            && parties.seller.role == GENERATOR
-            && parties.buyer.role == DISTRIBUTOR
+            && parties.seller.known_role() == Some(Role::Generator)
+            && parties.buyer.known_role() == Some(Role::Distributor)
     }
 
     fn quantity(&self, _terms: Contract, _parties: Parties, facts: Facts) -> u32 {
