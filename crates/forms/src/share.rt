@@ -5,6 +5,7 @@ ghost use Rattle.valuation.specs.Limits.{most_energy};
 ghost use Rattle.forms.specs.Kept.{share_keeps};
 
 use crate::form::ContractForm;
+use crate::hour::ContractHour;
 use crate::market::market_legs;
 use crate::roles::Role;
 use crate::{Contract, Facts, Legs, Parties};
@@ -43,11 +44,11 @@ impl ContractForm for Share {
             && parties.buyer.known_role() == Some(Role::Distributor)
     }
 
-    fn quantity(&self, _terms: Contract, _parties: Parties, facts: Facts) -> u32 {
-        shared_energy(facts)
+    fn quantity(&self, hour: ContractHour) -> u32 {
+        shared_energy(hour.facts)
     }
 
-    fn legs(&self, terms: Contract, _parties: Parties, facts: Facts, quantity: u32) -> Legs {
-        market_legs(terms, facts, quantity)
+    fn legs(&self, hour: ContractHour, quantity: u32) -> Legs {
+        market_legs(hour.terms, hour.facts, quantity)
     }
 }
