@@ -1,8 +1,25 @@
 //! Figures that a journal may give by a word.
-ghost use Rattle.std.specs.Prelude.{◌≡◌};
-ghost use Rattle.gibzurg.specs.Choices.{place_among, classes, roles, weekdays, meant};
+ghost use Rattle.std.specs.Prelude.{◌≡◌, ◌+◌, ◌<◌, ◌^◌, length, map};
+ghost use Rattle.gibzurg.specs.Choices.{place_among, meant};
 
 use crate::numbers::number;
+
+/// The days of a week, which are counted from 0.
+const WEEKDAYS: [&str; 7] = [
+    "monday",
+    "tuesday",
+    "wednesday",
+    "thursday",
+    "friday",
+    "saturday",
+    "sunday",
+];
+
+/// What an agent may be, counted from 1.
+pub(crate) const ROLES: [&str; 3] = ["generator", "distributor", "consumer"];
+
+/// What a line may be, counted from 1.
+const CLASSES: [&str; 3] = ["normal", "obligated", "forced"];
 
 /// A figure that has words of its own.
 #[derive(Clone, Copy, Debug, PartialEq)]
@@ -36,46 +53,20 @@ impl Choice {
         ensures { result ≡ meant self word.now }
     {
         match self {
-            Choice::Weekday => weekday(word),
-            Choice::Role => role(word),
-            Choice::Class => class(word),
+            Choice::Weekday => numbered(0, &WEEKDAYS, word),
+            Choice::Role => numbered(1, &ROLES, word),
+            Choice::Class => numbered(1, &CLASSES, word),
         }
     }
 }
 
-fn weekday(word: &str) -> Option<u32>
-    ensures { result ≡ place_among 0 weekdays word.now }
+/// The number of a word among names that are counted from the first's; any other word is a number written out.
+fn numbered(first: u32, names: &[&str], word: &str) -> Option<u32>
+    requires { first + length names.now < 2 ^ 32 }
+    ensures { result ≡ place_among first (map (λ name. name.now) names.now) word.now }
 {
-    match word {
-        "monday" => Some(0),
-        "tuesday" => Some(1),
-        "wednesday" => Some(2),
-        "thursday" => Some(3),
-        "friday" => Some(4),
-        "saturday" => Some(5),
-        "sunday" => Some(6),
-        _ => number(word),
-    }
-}
-
-fn role(word: &str) -> Option<u32>
-    ensures { result ≡ place_among 1 roles word.now }
-{
-    match word {
-        "generator" => Some(1),
-        "distributor" => Some(2),
-        "consumer" => Some(3),
-        _ => number(word),
-    }
-}
-
-fn class(word: &str) -> Option<u32>
-    ensures { result ≡ place_among 1 classes word.now }
-{
-    match word {
-        "normal" => Some(1),
-        "obligated" => Some(2),
-        "forced" => Some(3),
-        _ => number(word),
+    match names.iter().position(|name| word == *name) {
+        Some(place) => Some(first + place as u32),
+        None => number(word),
     }
 }

@@ -5,6 +5,12 @@ use std::fmt;
 #[derive(Clone, Copy)]
 pub(crate) struct Dollars(pub(crate) i128);
 
+impl From<i64> for Dollars {
+    fn from(points: i64) -> Dollars {
+        Dollars(i128::from(points))
+    }
+}
+
 impl fmt::Display for Dollars {
     fn fmt<W: fmt::Write>(&self, f: &mut fmt::Formatter<W>) -> fmt::Result {
         let points = self.0.unsigned_abs();

@@ -1,61 +1,32 @@
 //! What a journal line should have had where it went wrong.
 use crate::choices::Choice;
-use std::fmt;
+use thiserror::Error;
 
 /// What was expected.
-#[derive(Clone, Copy, Debug, PartialEq)]
+#[derive(Clone, Copy, Debug, Error, PartialEq)]
 pub(crate) enum Expected {
     /// One of the words that begin a line.
+    #[error("expected a line that begins with open, agent, post, line, withdraw, statement or statements")]
     Call,
     /// A label and a number.
+    #[error("expected the word \"{0}\" and a number from 0 to 4294967295")]
     Figure(&'static str),
     /// A label and a word or a number.
+    #[error("expected the word \"{}\" and one of {}, or a number", .0.label(), .0.names())]
     Named(Choice),
     /// The number of an agent.
+    #[error("expected the number of an agent")]
     Agent,
     /// No word more.
+    #[error("expected the end of the line")]
     End,
     /// The agent line of this number, of so many after an opening.
+    #[error("expected agent line {0} of {1}")]
     AgentLine(usize, u32),
     /// Another line than an agent's.
+    #[error("expected no agent line here, since they stand right after an open line")]
     NoAgentLine,
     /// Another line than a posting's.
+    #[error("expected no posting line here, since they stand right after a post line")]
     NoPostingLine,
-}
-
-impl fmt::Display for Expected {
-    fn fmt<W: fmt::Write>(&self, f: &mut fmt::Formatter<W>) -> fmt::Result {
-        match self {
-            Expected::Call => write!(
-                f,
-                "expected a line that begins with open, agent, post, line, withdraw, statement or statements"
-            ),
-            Expected::Figure(label) => write!(
-                f,
-                "expected the word \"{label}\" and a number from 0 to 4294967295"
-            ),
-            Expected::Named(choice) => {
-                let label = choice.label();
-                let names = choice.names();
-                write!(
-                    f,
-                    "expected the word \"{label}\" and one of {names}, or a number"
-                )
-            }
-            Expected::Agent => write!(f, "expected the number of an agent"),
-            Expected::End => write!(f, "expected the end of the line"),
-            Expected::AgentLine(number, count) => write!(
-                f,
-                "expected agent line {number} of {count}"
-            ),
-            Expected::NoAgentLine => write!(
-                f,
-                "expected no agent line here, since they stand right after an open line"
-            ),
-            Expected::NoPostingLine => write!(
-                f,
-                "expected no posting line here, since they stand right after a post line"
-            ),
-        }
-    }
 }

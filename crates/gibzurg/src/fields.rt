@@ -2,67 +2,50 @@
 use crate::choices::Choice;
 use crate::expected::Expected;
 use crate::numbers::number;
+use std::str::Split;
 
-/// What is left of a line.
+/// What is left of a line, in the pieces between its spaces.
 #[derive(Drop)]
 pub(crate) struct Fields<'a> {
-    rest: &'a str,
+    pieces: Split<'a, char>,
 }
 
 impl<'a> Fields<'a> {
+    /// The fields of a line.
     pub(crate) fn new(line: &'a str) -> Fields<'a> {
-        Fields { rest: line }
+        Fields {
+            pieces: line.split(' '),
+        }
     }
 
     /// The next word, where one is left.
     pub(crate) fn word(&mut self) -> Option<&'a str> {
-        let text = self.rest.trim_start_matches(' ');
-        if text.is_empty() {
-            return None;
-        }
-        match text.split_once(' ') {
-            Some((word, rest)) => {
-                self.rest = rest;
-                Some(word)
-            }
-            None => {
-                self.rest = "";
-                Some(text)
-            }
-        }
+        self.pieces.find(|piece| !piece.is_empty())
     }
 
     /// The word after a label.
     fn labelled(&mut self, label: &str) -> Option<&'a str> {
-        if self.word()? == label {
-            self.word()
-        } else {
-            None
-        }
+        self.word().filter(|word| *word == label)?;
+        self.word()
     }
 
     /// The number after a label.
     pub(crate) fn figure(&mut self, label: &'static str) -> Result<u32, Expected> {
-        match self.labelled(label) {
-            Some(word) => number(word).ok_or(Expected::Figure(label)),
-            None => Err(Expected::Figure(label)),
-        }
+        self.labelled(label)
+            .and_then(number)
+            .ok_or(Expected::Figure(label))
     }
 
     /// The number after a choice's label, given by its word or as it is.
     pub(crate) fn choice(&mut self, choice: Choice) -> Result<u32, Expected> {
-        match self.labelled(choice.label()) {
-            Some(word) => choice.read(word).ok_or(Expected::Named(choice)),
-            None => Err(Expected::Named(choice)),
-        }
+        self.labelled(choice.label())
+            .and_then(|word| choice.read(word))
+            .ok_or(Expected::Named(choice))
     }
 
     /// The number of an agent, with no label of its own.
     pub(crate) fn agent(&mut self) -> Result<u32, Expected> {
-        match self.word() {
-            Some(word) => number(word).ok_or(Expected::Agent),
-            None => Err(Expected::Agent),
-        }
+        self.word().and_then(number).ok_or(Expected::Agent)
     }
 
     /// That no word is left.

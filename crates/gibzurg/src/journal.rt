@@ -7,8 +7,6 @@ use book::{Agent, Line};
 /// What one journal line says.
 #[derive(Clone, Copy)]
 pub(crate) enum Entry {
-    /// A blank line or a comment.
-    Blank,
     /// A call to make.
     Call(Request),
     /// An agent of the book that is being opened, with its number.
@@ -40,18 +38,22 @@ pub(crate) enum Request {
 
 /// Whether the lines of a posting go on at this line: one of them, or a line that is passed over.
 pub(crate) fn goes_on(line: &str) -> bool {
-    match Fields::new(line).word() {
-        Some(first) => first == "line" || first.starts_with('#'),
-        None => true,
+    Fields::new(line)
+        .word()
+        .is_none_or(|first| first == "line" || first.starts_with('#'))
+}
+
+/// Reads one line, without its end; a blank line or a comment says nothing.
+pub(crate) fn read(line: &str) -> Result<Option<Entry>, Expected> {
+    let mut fields = Fields::new(line);
+    match fields.word() {
+        Some(first) if !first.starts_with('#') => entry_of(first, fields).map(Some),
+        _ => Ok(None),
     }
 }
 
-/// Reads one line, without its end.
-pub(crate) fn read(line: &str) -> Result<Entry, Expected> {
-    let mut fields = Fields::new(line);
-    let Some(first) = fields.word() else {
-        return Ok(Entry::Blank);
-    };
+/// Reads what stands after a line's first word.
+fn entry_of(first: &str, fields: Fields) -> Result<Entry, Expected> {
     match first {
         "open" => opening(fields),
         "agent" => agent(fields),
@@ -60,13 +62,7 @@ pub(crate) fn read(line: &str) -> Result<Entry, Expected> {
         "withdraw" => withdrawal(fields),
         "statement" => statement(fields),
         "statements" => statements(fields),
-        _ => {
-            if first.starts_with('#') {
-                Ok(Entry::Blank)
-            } else {
-                Err(Expected::Call)
-            }
-        }
+        _ => Err(Expected::Call),
     }
 }
 

@@ -1,4 +1,6 @@
 //! A book with the memory that the program lends it.
+use crate::expected::Expected;
+use crate::words::Provisional;
 use audit::{Answer, Call, Posting, Totals};
 use book::{Account, Agent, BookFault, Entry, OpenMonth, Statement};
 use forms::Contract;
@@ -6,6 +8,7 @@ use std::alloc::{AllocError, Global};
 use tally::{Energy, Money, Pair, Peak, Tally};
 
 /// What the book answered, where there was memory to note the call.
+// Kept: one error enum is no plainer, since `?` takes the outer error, which ends the run, and the inner one is an answer to print.
 pub(crate) type Heard<T> = Result<Result<T, BookFault>, AllocError>;
 
 /// A book to open, with the agents that have been read so far.
@@ -27,15 +30,11 @@ impl Opening {
     pub(crate) fn is_complete(&self) -> bool {
         self.agents.len() >= self.count as usize
     }
-}
 
-/// So many places with the same value.
-fn places<T: Copy>(heap: Global, value: T, count: usize) -> Result<Vec<T>, AllocError> {
-    let mut places = Vec::new(heap);
-    for _ in 0..count {
-        places.push(value)?;
+    /// The agent line that the opening waits for.
+    pub(crate) fn awaited(&self) -> Expected {
+        Expected::AgentLine(self.next(), self.count)
     }
-    Ok(places)
 }
 
 /// The statement of an agent that nothing was settled for.
@@ -45,6 +44,31 @@ fn blank_statement() -> Statement {
         balance: 0,
         energy: Energy::neutral(),
         peak: Peak::neutral(),
+    }
+}
+
+/// How many accounts, contract places, marks and entries a book has.
+#[derive(Clone, Copy, Default)]
+struct Sizes {
+    accounts: usize,
+    contracts: usize,
+    marks: usize,
+    entries: usize,
+}
+
+impl Sizes {
+    /// The sizes of a book of so many agents and days, where a book has as many.
+    fn of(agents: u32, days: u32) -> Option<Sizes> {
+        if agents < 1 || agents > 64 || days < 1 || days > 31 {
+            return None;
+        }
+        let (agents, hours) = (agents as usize, 24 * days as usize);
+        Some(Sizes {
+            accounts: agents,
+            contracts: 64,
+            marks: hours,
+            entries: agents * hours,
+        })
     }
 }
 
@@ -58,20 +82,15 @@ struct Memory {
 }
 
 impl Memory {
-    /// The memory of a book of so many agents and days; none where no book has as many.
+    /// The memory of a book of so many agents and days; nothing where no book has as many.
     fn new(heap: Global, agents: u32, days: u32) -> Result<Memory, AllocError> {
-        let exists = 1 <= agents && agents <= 64 && 1 <= days && days <= 31;
-        let (agents, contracts, hours) = if exists {
-            (agents as usize, 64, 24 * days as usize)
-        } else {
-            (0, 0, 0)
-        };
+        let sizes = Sizes::of(agents, days).unwrap_or_default();
         let neutral: Entry = Pair::neutral();
         Ok(Memory {
-            accounts: places(heap, neutral, agents)?,
-            contracts: places(heap, None, contracts)?,
-            marks: places(heap, 0, hours)?,
-            entries: places(heap, neutral, agents * hours)?,
+            accounts: vec![in heap; neutral; sizes.accounts]?,
+            contracts: vec![in heap; None; sizes.contracts]?,
+            marks: vec![in heap; 0; sizes.marks]?,
+            entries: vec![in heap; neutral; sizes.entries]?,
         })
     }
 }
@@ -143,7 +162,7 @@ impl Ledger {
     }
 
     /// The provisional statement of an agent.
-    pub(crate) fn provisional(&mut self, agent: u32) -> Heard<Statement> {
+    pub(crate) fn provisional(&mut self, agent: u32) -> Heard<Provisional> {
         let answer = book::provisional(
             &self.month,
             agent,
@@ -154,7 +173,12 @@ impl Ledger {
             &self.memory.entries,
         );
         self.calls.push(Call::Provisional(agent))?;
-        Ok(answer)
+        let role = self.role(agent);
+        Ok(answer.map(|statement| Provisional {
+            agent,
+            role,
+            statement,
+        }))
     }
 
     /// How many agents the book has.
@@ -162,19 +186,17 @@ impl Ledger {
         self.opening.count
     }
 
-    /// The role of an agent; 0 where the book has none of the number.
-    pub(crate) fn role(&self, agent: u32) -> u32 {
-        match self.opening.agents.get((agent as usize).wrapping_sub(1)) {
-            Some(found) => found.role,
-            None => 0,
-        }
+    /// The role of an agent, where the book has one of the number.
+    fn role(&self, agent: u32) -> Option<u32> {
+        let place = (agent as usize).checked_sub(1)?;
+        self.opening.agents.get(place).map(|found| found.role)
     }
 
     /// Settles the same calls again in other memory, for the totals.
     pub(crate) fn totals(&self) -> Heard<Totals> {
         let mut memory = Memory::new(self.heap, self.opening.count, self.opening.days)?;
-        let mut answers = places(self.heap, Answer::Accepted, self.calls.len())?;
-        let mut statements = places(self.heap, blank_statement(), self.opening.agents.len())?;
+        let mut answers = vec![in self.heap; Answer::Accepted; self.calls.len()]?;
+        let mut statements = vec![in self.heap; blank_statement(); self.opening.agents.len()]?;
         Ok(audit::audit(
             self.opening.count,
             self.opening.days,

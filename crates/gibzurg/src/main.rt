@@ -61,6 +61,5 @@ fn text(rt: &HostRuntime, path: &str) -> Result<String, Trouble> {
 
 /// Prints the commands, and a small journal to start from.
 fn print_help(rt: &HostRuntime) -> Result<(), Trouble> {
-    rt.println(help::PAGE)?;
-    Ok(())
+    Ok(rt.println(help::PAGE)?)
 }

@@ -2,99 +2,129 @@
 use crate::expected::Expected;
 use crate::journal;
 use crate::journal::{Entry, Request};
-use crate::ledger::{Ledger, Opening};
+use crate::ledger::{Heard, Ledger, Opening};
 use crate::trouble::Trouble;
-use crate::words::{Heading, Outcome, Provisional, Reply, Totals};
+use crate::words::{Heading, Reply, Totals, Undone};
 use audit::Posting;
-use book::{Agent, BookFault, Line, Statement};
+use book::{Agent, BookFault, Line};
 use std::alloc::Global;
-use std::mem;
+use std::fmt::Display;
 
-/// What the journal has begun, and its next lines go on with.
+/// The journal line that is answered, and where the answers are printed.
+#[derive(Clone, Copy)]
+struct Voice<'a> {
+    rt: &'a HostRuntime,
+    line: usize,
+}
+
+impl<'a> Voice<'a> {
+    /// Says how a call went.
+    fn say(self, heading: Heading, outcome: Result<(), Undone>) -> Result<(), Trouble> {
+        let line = self.line;
+        Ok(
+            self.rt.println(Reply {
+                line,
+                heading,
+                outcome,
+            })?,
+        )
+    }
+
+    /// Prints what the book gave, or says that it refused.
+    fn tell<T: Display + Drop>(
+        self,
+        heading: Heading,
+        given: Result<T, BookFault>,
+    ) -> Result<(), Trouble> {
+        match given {
+            Ok(given) => Ok(self.rt.println(given)?),
+            Err(fault) => self.say(heading, Err(Undone::Refused(fault))),
+        }
+    }
+
+    /// The end of a run at this line.
+    fn malformed(self, expected: Expected) -> Trouble {
+        Trouble::Malformed(self.line, expected)
+    }
+}
+
+/// What the journal has begun, and its next lines go on with. Its answer is for the line that began it.
 #[derive(Drop)]
-enum Begun {
-    Nothing,
-    /// An opening, by its line, whose agents are being read.
-    Opening(usize, Opening),
-    /// A posting, by its line, whose lines are being read.
-    Posting(usize, Posting),
+enum Begun<'a> {
+    /// An opening whose agents are being read.
+    Opening(Voice<'a>, Opening),
+    /// A posting whose lines are being read.
+    Posting(Voice<'a>, Posting),
 }
 
-/// The book that calls are made on.
-enum Desk {
-    Empty,
-    Open(Ledger),
-}
-
-/// A run of one journal.
-struct Session {
+/// A run of one journal, with the book that calls are made on.
+struct Session<'a> {
     heap: Global,
-    begun: Begun,
-    desk: Desk,
+    begun: Option<Begun<'a>>,
+    book: Option<Ledger>,
 }
 
 /// Runs a journal, and prints the answers.
 pub(crate) fn settle(rt: &HostRuntime, text: &str) -> Result<(), Trouble> {
     let mut session = Session {
         heap: rt.alloc(),
-        begun: Begun::Nothing,
-        desk: Desk::Empty,
+        begun: None,
+        book: None,
     };
     let outcome = session.run(rt, text);
     let Session {
         heap: _,
         begun: _,
-        desk,
+        book,
     } = session;
-    desk.clear();
+    retire(book);
     outcome
 }
 
-impl Desk {
-    /// Lets the book go.
-    fn clear(self) {
-        match self {
-            Desk::Empty => {}
-            Desk::Open(ledger) => ledger.retire(),
-        }
+/// Lets a book go.
+fn retire(book: Option<Ledger>) {
+    if let Some(ledger) = book {
+        ledger.retire();
     }
 }
 
-impl Session {
-    fn run(&mut self, rt: &HostRuntime, text: &str) -> Result<(), Trouble> {
-        let mut number: usize = 0;
-        for line in text.split_terminator('\n') {
-            number = number.saturating_add(1);
-            self.hear(rt, number, line)?;
+impl<'a> Session<'a> {
+    /// Runs every line, and the journal's end.
+    fn run(&mut self, rt: &'a HostRuntime, text: &str) -> Result<(), Trouble> {
+        let lines = text.split_terminator('\n');
+        for (before, text) in lines.enumerate() {
+            let line = before.saturating_add(1);
+            self.hear(Voice { rt, line }, text)?;
         }
-        self.finish(rt, number.saturating_add(1))
+        let line = text.split_terminator('\n').count().saturating_add(1);
+        self.finish(Voice { rt, line })
     }
 
     /// Runs one line. A posting is called before the first line that is none of its own.
-    fn hear(&mut self, rt: &HostRuntime, number: usize, line: &str) -> Result<(), Trouble> {
-        if !journal::goes_on(line) {
-            self.post(rt)?;
+    fn hear(&mut self, voice: Voice<'a>, text: &str) -> Result<(), Trouble> {
+        if !journal::goes_on(text) {
+            self.post()?;
         }
-        match journal::read(line) {
-            Ok(Entry::Blank) => Ok(()),
-            Ok(Entry::Agent(agent, figures)) => self.add_agent(rt, number, agent, figures),
-            Ok(Entry::Line(figures)) => self.add_line(number, figures),
-            Ok(Entry::Call(request)) => {
-                self.no_opening(number)?;
-                self.begin(rt, number, request)
+        match journal::read(text) {
+            Ok(None) => Ok(()),
+            Ok(Some(Entry::Agent(number, agent))) => self.add_agent(voice, number, agent),
+            Ok(Some(Entry::Line(line))) => self.add_line(voice, line),
+            Ok(Some(Entry::Call(request))) => {
+                self.no_opening(voice)?;
+                self.begin(voice, request)
             }
-            Err(expected) => Err(Trouble::Malformed(number, expected)),
+            Err(expected) => Err(voice.malformed(expected)),
         }
     }
 
     /// The journal's end, which calls a posting and may not leave an opening short of agents.
-    fn finish(&mut self, rt: &HostRuntime, number: usize) -> Result<(), Trouble> {
-        self.post(rt)?;
-        self.no_opening(number)
+    fn finish(&mut self, voice: Voice<'a>) -> Result<(), Trouble> {
+        self.post()?;
+        self.no_opening(voice)
     }
 
     /// Begins or makes a call.
-    fn begin(&mut self, rt: &HostRuntime, line: usize, request: Request) -> Result<(), Trouble> {
+    fn begin(&mut self, voice: Voice<'a>, request: Request) -> Result<(), Trouble> {
         match request {
             Request::Open {
                 agents,
@@ -107,207 +137,133 @@ impl Session {
                     weekday,
                     agents: Vec::new(self.heap),
                 };
-                self.begun = Begun::Opening(line, opening);
-                self.open_if_complete(rt)
+                self.open_if_complete(voice, opening)
             }
             Request::Post { hour, price } => {
-                self.begun = Begun::Posting(
-                    line,
-                    Posting {
-                        hour,
-                        price,
-                        lines: Vec::new(self.heap),
-                    },
-                );
+                let posting = Posting {
+                    hour,
+                    price,
+                    lines: Vec::new(self.heap),
+                };
+                self.begun = Some(Begun::Posting(voice, posting));
                 Ok(())
             }
-            Request::Withdraw { hour } => self.withdraw(rt, line, hour),
-            Request::Statement { agent } => self.statement(rt, line, agent),
-            Request::Statements => self.statements(rt, line),
+            Request::Withdraw { hour } => {
+                self.call(
+                    voice,
+                    Heading::Withdraw(hour),
+                    |ledger| ledger.withdraw(hour),
+                )
+            }
+            Request::Statement { agent } => self.statement(voice, agent),
+            Request::Statements => self.statements(voice),
         }
     }
 
     /// That no opening waits for agents.
-    fn no_opening(&self, line: usize) -> Result<(), Trouble> {
+    fn no_opening(&self, voice: Voice) -> Result<(), Trouble> {
         match &self.begun {
-            Begun::Opening(_, opening) => Err(Trouble::Malformed(line, awaited(opening))),
+            Some(Begun::Opening(_, opening)) => Err(voice.malformed(opening.awaited())),
             _ => Ok(()),
         }
     }
 
     /// Adds the next agent to the opening, and opens the book with the last.
-    fn add_agent(
-        &mut self,
-        rt: &HostRuntime,
-        line: usize,
-        number: u32,
-        agent: Agent,
-    ) -> Result<(), Trouble> {
-        match &mut self.begun {
-            Begun::Opening(_, opening) => {
-                if number as usize != opening.next() {
-                    return Err(Trouble::Malformed(line, awaited(opening)));
-                }
-                opening.agents.push(agent)?;
-            }
-            _ => return Err(Trouble::Malformed(line, Expected::NoAgentLine)),
+    fn add_agent(&mut self, voice: Voice, number: u32, agent: Agent) -> Result<(), Trouble> {
+        let Some(Begun::Opening(begun, mut opening)) = self.begun.take() else {
+            return Err(voice.malformed(Expected::NoAgentLine));
+        };
+        if number as usize != opening.next() {
+            return Err(voice.malformed(opening.awaited()));
         }
-        self.open_if_complete(rt)
+        opening.agents.push(agent)?;
+        self.open_if_complete(begun, opening)
     }
 
     /// Adds a line to the posting.
-    fn add_line(&mut self, line: usize, figures: Line) -> Result<(), Trouble> {
+    fn add_line(&mut self, voice: Voice, line: Line) -> Result<(), Trouble> {
         match &mut self.begun {
-            Begun::Nothing => Err(Trouble::Malformed(line, Expected::NoPostingLine)),
-            Begun::Opening(_, opening) => Err(Trouble::Malformed(line, awaited(opening))),
-            Begun::Posting(_, posting) => {
-                posting.lines.push(figures)?;
-                Ok(())
-            }
+            None => Err(voice.malformed(Expected::NoPostingLine)),
+            Some(Begun::Opening(_, opening)) => Err(voice.malformed(opening.awaited())),
+            Some(Begun::Posting(_, posting)) => Ok(posting.lines.push(line)?),
         }
     }
 
-    /// Calls the opening once its last agent has been read.
-    fn open_if_complete(&mut self, rt: &HostRuntime) -> Result<(), Trouble> {
-        match mem::replace(&mut self.begun, Begun::Nothing) {
-            Begun::Opening(line, opening) => {
-                if opening.is_complete() {
-                    self.open(rt, line, opening)
-                } else {
-                    self.begun = Begun::Opening(line, opening);
-                    Ok(())
-                }
-            }
-            _ => Ok(()),
+    /// Opens the book once the last agent has been read, and waits for the next until then.
+    fn open_if_complete(&mut self, voice: Voice<'a>, opening: Opening) -> Result<(), Trouble> {
+        if opening.is_complete() {
+            return self.open(voice, opening);
         }
+        self.begun = Some(Begun::Opening(voice, opening));
+        Ok(())
     }
 
     /// Opens a book in the place of the one before.
-    fn open(&mut self, rt: &HostRuntime, line: usize, opening: Opening) -> Result<(), Trouble> {
-        mem::replace(&mut self.desk, Desk::Empty).clear();
+    fn open(&mut self, voice: Voice, opening: Opening) -> Result<(), Trouble> {
+        retire(self.book.take());
         let outcome = match Ledger::open(self.heap, opening)? {
             Ok(ledger) => {
-                mem::replace(&mut self.desk, Desk::Open(ledger)).clear();
-                Outcome::Accepted
+                retire(self.book.replace(ledger));
+                Ok(())
             }
-            Err(fault) => Outcome::Refused(fault),
+            Err(fault) => Err(Undone::Refused(fault)),
         };
-        say(rt, line, Heading::Open, outcome)
+        voice.say(Heading::Open, outcome)
     }
 
     /// Calls the posting, where one has been begun.
-    fn post(&mut self, rt: &HostRuntime) -> Result<(), Trouble> {
-        match mem::replace(&mut self.begun, Begun::Nothing) {
-            Begun::Posting(line, posting) => {
+    fn post(&mut self) -> Result<(), Trouble> {
+        match self.begun.take() {
+            Some(Begun::Posting(voice, posting)) => {
                 let heading = Heading::Post(posting.hour);
-                let outcome = match &mut self.desk {
-                    Desk::Empty => Outcome::NoBook,
-                    Desk::Open(ledger) => outcome(ledger.post(posting)?),
-                };
-                say(rt, line, heading, outcome)
+                self.call(voice, heading, |ledger| ledger.post(posting))
             }
-            other => {
-                self.begun = other;
+            begun => {
+                self.begun = begun;
                 Ok(())
             }
         }
     }
 
-    fn withdraw(&mut self, rt: &HostRuntime, line: usize, hour: u32) -> Result<(), Trouble> {
-        let outcome = match &mut self.desk {
-            Desk::Empty => Outcome::NoBook,
-            Desk::Open(ledger) => outcome(ledger.withdraw(hour)?),
+    /// Makes a call on the open book, and says how it went.
+    fn call<F: FnOnce(&mut Ledger) -> Heard<()> + Drop>(
+        &mut self,
+        voice: Voice,
+        heading: Heading,
+        work: F,
+    ) -> Result<(), Trouble>
+        requires { F.IsAlwaysCallable work }
+    {
+        let outcome = match &mut self.book {
+            Some(ledger) => work(ledger)?.map_err(Undone::Refused),
+            None => Err(Undone::NoBook),
         };
-        say(rt, line, Heading::Withdraw(hour), outcome)
+        voice.say(heading, outcome)
     }
 
     /// Prints the statement of an agent.
-    fn statement(&mut self, rt: &HostRuntime, line: usize, agent: u32) -> Result<(), Trouble> {
-        match &mut self.desk {
-            Desk::Empty => say(rt, line, Heading::Statement(agent), Outcome::NoBook),
-            Desk::Open(ledger) => match ledger.provisional(agent)? {
-                Ok(statement) => {
-                    say(rt, line, Heading::Statement(agent), Outcome::Accepted)?;
-                    tell(rt, ledger, agent, statement)
-                }
-                Err(fault) => say(rt, line, Heading::Statement(agent), Outcome::Refused(fault)),
-            },
+    fn statement(&mut self, voice: Voice, agent: u32) -> Result<(), Trouble> {
+        let heading = Heading::Statement(agent);
+        let Some(ledger) = &mut self.book else {
+            return voice.say(heading, Err(Undone::NoBook));
+        };
+        let given = ledger.provisional(agent)?;
+        if given.is_ok() {
+            voice.say(heading, Ok(()))?;
         }
+        voice.tell(heading, given)
     }
 
-    /// Prints the statements of all agents, and the totals.
-    fn statements(&mut self, rt: &HostRuntime, line: usize) -> Result<(), Trouble> {
-        match &mut self.desk {
-            Desk::Empty => say(rt, line, Heading::Statements, Outcome::NoBook),
-            Desk::Open(ledger) => {
-                say(rt, line, Heading::Statements, Outcome::Accepted)?;
-                tell_all(rt, ledger, line)?;
-                tell_totals(rt, ledger, line)
-            }
+    /// Prints the statements of all agents in their order, and what they come to together.
+    fn statements(&mut self, voice: Voice) -> Result<(), Trouble> {
+        let heading = Heading::Statements;
+        let Some(ledger) = &mut self.book else {
+            return voice.say(heading, Err(Undone::NoBook));
+        };
+        voice.say(heading, Ok(()))?;
+        for agent in 1..=ledger.count() {
+            voice.tell(Heading::Statement(agent), ledger.provisional(agent)?)?;
         }
-    }
-}
-
-/// The agent line that an opening waits for.
-fn awaited(opening: &Opening) -> Expected {
-    Expected::AgentLine(opening.next(), opening.count)
-}
-
-/// How a call went that gives no more than its acceptance.
-fn outcome(answer: Result<(), BookFault>) -> Outcome {
-    match answer {
-        Ok(()) => Outcome::Accepted,
-        Err(fault) => Outcome::Refused(fault),
-    }
-}
-
-/// Answers a call.
-fn say(rt: &HostRuntime, line: usize, heading: Heading, outcome: Outcome) -> Result<(), Trouble> {
-    rt.println(Reply {
-        line,
-        heading,
-        outcome,
-    })?;
-    Ok(())
-}
-
-/// Prints a statement.
-fn tell(
-    rt: &HostRuntime,
-    ledger: &Ledger,
-    agent: u32,
-    statement: Statement,
-) -> Result<(), Trouble> {
-    let role = ledger.role(agent);
-    rt.println(Provisional {
-        agent,
-        role,
-        statement,
-    })?;
-    Ok(())
-}
-
-/// Prints the statements of all agents, in their order.
-fn tell_all(rt: &HostRuntime, ledger: &mut Ledger, line: usize) -> Result<(), Trouble> {
-    for agent in 1..=ledger.count() {
-        match ledger.provisional(agent)? {
-            Ok(statement) => tell(rt, ledger, agent, statement)?,
-            Err(fault) => say(rt, line, Heading::Statement(agent), Outcome::Refused(fault))?,
-        }
-    }
-    Ok(())
-}
-
-/// Prints what all statements come to together.
-fn tell_totals(rt: &HostRuntime, ledger: &Ledger, line: usize) -> Result<(), Trouble> {
-    match ledger.totals()? {
-        Ok(report) => {
-            rt.println(Totals {
-                balances: i128::from(report.balances),
-                residue: i128::from(report.residue),
-            })?;
-            Ok(())
-        }
-        Err(fault) => say(rt, line, Heading::Statements, Outcome::Refused(fault)),
+        voice.tell(heading, ledger.totals()?.map(Totals::from))
     }
 }

@@ -5,17 +5,17 @@ use crate::expected::Expected;
 use crate::journal::{Entry, Request};
 use crate::numbers::number;
 use crate::trouble::Trouble;
-use crate::words::{Heading, Outcome, Reply, Totals};
+use crate::words::{Heading, Reply, Totals, Undone};
 use crate::{journal, session};
 use book::BookFault;
 use std::test::Fail;
 
-/// The case and the figures of an entry.
-fn figures(entry: Entry) -> [u32; 8] {
+/// The case and the figures of an entry, or of a line that says nothing.
+fn figures(entry: Option<Entry>) -> [u32; 8] {
     match entry {
-        Entry::Blank => [0; 8],
-        Entry::Call(request) => asked(request),
-        Entry::Agent(number, agent) => [
+        None => [0; 8],
+        Some(Entry::Call(request)) => asked(request),
+        Some(Entry::Agent(number, agent)) => [
             2,
             number,
             agent.role,
@@ -25,7 +25,7 @@ fn figures(entry: Entry) -> [u32; 8] {
             0,
             0,
         ],
-        Entry::Line(line) => [
+        Some(Entry::Line(line)) => [
             4,
             line.class,
             line.cause,
@@ -193,7 +193,7 @@ fn says_replies(rt: HostRuntime) -> Result<(), Fail> {
     let reply = Reply {
         line: 5,
         heading: Heading::Post(8),
-        outcome: Outcome::Accepted,
+        outcome: Ok(()),
     };
     assert_eq!(rt;
         reply.to_string(rt.alloc())?.as_str(),
@@ -202,7 +202,7 @@ fn says_replies(rt: HostRuntime) -> Result<(), Fail> {
     let reply = Reply {
         line: 1,
         heading: Heading::Open,
-        outcome: Outcome::NoBook,
+        outcome: Err(Undone::NoBook),
     };
     assert_eq!(rt;
         reply.to_string(rt.alloc())?.as_str(),
@@ -211,7 +211,7 @@ fn says_replies(rt: HostRuntime) -> Result<(), Fail> {
     let reply = Reply {
         line: 9,
         heading: Heading::Withdraw(8),
-        outcome: Outcome::Refused(BookFault::FreeHour(8)),
+        outcome: Err(Undone::Refused(BookFault::FreeHour(8))),
     };
     assert_eq!(rt;
         reply.to_string(rt.alloc())?.as_str(),

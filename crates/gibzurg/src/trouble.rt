@@ -1,48 +1,22 @@
 //! Why a run ends early.
 use crate::expected::Expected;
-use std::alloc::{AllocError, AllocFailed};
-use std::{fmt, io};
+use std::alloc::AllocError;
+use std::io;
+use thiserror::Error;
 
-#[derive(Drop)]
+/// What ends a run.
+#[derive(Debug, Drop, Error)]
 pub(crate) enum Trouble {
     /// A journal line, by its number, that is not of a journal's forms.
+    #[error("Line {0}: {1}.")]
     Malformed(usize, Expected),
     /// A command that the program does not have.
+    #[error("Unknown command: expected settle and a file, or help.")]
     UnknownCommand,
     /// A book of this size finds no memory.
-    Memory,
+    #[error("Out of memory.")]
+    Memory(#[from(alloc)] AllocError),
     /// A file or a stream fails.
-    Stream(io::Error),
-}
-
-impl fmt::Display for Trouble {
-    fn fmt<W: fmt::Write>(&self, f: &mut fmt::Formatter<W>) -> fmt::Result {
-        match self {
-            Trouble::Malformed(line, expected) => write!(f, "Line {line}: {expected}."),
-            Trouble::UnknownCommand => write!(
-                f,
-                "Unknown command: expected settle and a file, or help."
-            ),
-            Trouble::Memory => write!(f, "Out of memory."),
-            Trouble::Stream(error) => write!(f, "A file or a stream failed: {error}."),
-        }
-    }
-}
-
-impl From<AllocError> for Trouble {
-    fn from(_error: AllocError) -> Trouble {
-        Trouble::Memory
-    }
-}
-
-impl<T: Drop> From<AllocFailed<T>> for Trouble {
-    fn from(_error: AllocFailed<T>) -> Trouble {
-        Trouble::Memory
-    }
-}
-
-impl From<io::Error> for Trouble {
-    fn from(error: io::Error) -> Trouble {
-        Trouble::Stream(error)
-    }
+    #[error("A file or a stream failed: {0}.")]
+    Stream(#[from] io::Error),
 }

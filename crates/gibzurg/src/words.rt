@@ -1,7 +1,9 @@
 //! What the program says of the calls that it makes.
+use crate::choices::ROLES;
 use crate::dollars::Dollars;
 use book::{BookFault, LineFault, Statement};
 use std::fmt;
+use thiserror::Error;
 
 /// A call, as its answer names it.
 #[derive(Clone, Copy)]
@@ -25,12 +27,14 @@ impl fmt::Display for Heading {
     }
 }
 
-/// How a call went.
-#[derive(Clone, Copy)]
-pub(crate) enum Outcome {
-    Accepted,
+/// Why a call was not done.
+#[derive(Clone, Copy, Debug, Error)]
+pub(crate) enum Undone {
+    /// The book refused it.
+    #[error("refused, fault {} at {}, {}", .0.number(), .0.place(), meaning(*.0))]
     Refused(BookFault),
     /// There was no book to make the call on.
+    #[error("skipped, no book is open")]
     NoBook,
 }
 
@@ -39,23 +43,19 @@ pub(crate) enum Outcome {
 pub(crate) struct Reply {
     pub(crate) line: usize,
     pub(crate) heading: Heading,
-    pub(crate) outcome: Outcome,
+    pub(crate) outcome: Result<(), Undone>,
 }
 
 impl fmt::Display for Reply {
     fn fmt<W: fmt::Write>(&self, f: &mut fmt::Formatter<W>) -> fmt::Result {
-        let line = self.line;
-        let heading = self.heading;
-        write!(f, "Line {line}, {heading}: ")?;
-        match self.outcome {
-            Outcome::Accepted => write!(f, "accepted."),
-            Outcome::NoBook => write!(f, "skipped, no book is open."),
-            Outcome::Refused(fault) => {
-                let number = fault.number();
-                let place = fault.place();
-                let meaning = meaning(fault);
-                write!(f, "refused, fault {number} at {place}, {meaning}.")
-            }
+        let Reply {
+            line,
+            heading,
+            outcome,
+        } = self;
+        match outcome {
+            Ok(()) => write!(f, "Line {line}, {heading}: accepted."),
+            Err(undone) => write!(f, "Line {line}, {heading}: {undone}."),
         }
     }
 }
@@ -85,37 +85,33 @@ fn posting_meaning(fault: LineFault) -> &'static str {
     }
 }
 
-/// The word for a role.
-fn role(number: u32) -> &'static str {
-    match number {
-        1 => "generator",
-        2 => "distributor",
-        3 => "consumer",
-        _ => "unknown role",
-    }
+/// The word for a role, where its number has one.
+fn role(number: u32) -> Option<&'static str> {
+    let place = number.checked_sub(1)?;
+    ROLES.get(place as usize).copied()
 }
 
 /// A provisional statement, with the agent that it is of.
 #[derive(Clone, Copy)]
 pub(crate) struct Provisional {
     pub(crate) agent: u32,
-    pub(crate) role: u32,
+    pub(crate) role: Option<u32>,
     pub(crate) statement: Statement,
 }
 
 impl fmt::Display for Provisional {
     fn fmt<W: fmt::Write>(&self, f: &mut fmt::Formatter<W>) -> fmt::Result {
         let agent = self.agent;
-        let role = role(self.role);
+        let role = self.role.and_then(role).unwrap_or("unknown role");
         let lines = self.statement.lines;
         let energy = self.statement.energy;
         let peak = self.statement.peak;
         writeln!(f, "Statement of agent {agent}, {role}, provisional.")?;
-        writeln!(f, "Market: {}.", dollars(lines.market))?;
-        writeln!(f, "Contracts: {}.", dollars(lines.contract))?;
-        writeln!(f, "Overcost: {}.", dollars(lines.overcost))?;
-        writeln!(f, "Power: {}.", dollars(lines.power))?;
-        writeln!(f, "Balance: {}.", dollars(self.statement.balance))?;
+        writeln!(f, "Market: {}.", Dollars::from(lines.market))?;
+        writeln!(f, "Contracts: {}.", Dollars::from(lines.contract))?;
+        writeln!(f, "Overcost: {}.", Dollars::from(lines.overcost))?;
+        writeln!(f, "Power: {}.", Dollars::from(lines.power))?;
+        writeln!(f, "Balance: {}.", Dollars::from(self.statement.balance))?;
         writeln!(f, "Injected: {} kilowatt-hours.", energy.injected)?;
         writeln!(f, "Withdrawn: {} kilowatt-hours.", energy.withdrawn)?;
         writeln!(
@@ -127,16 +123,20 @@ impl fmt::Display for Provisional {
     }
 }
 
-/// An account's number as an amount.
-fn dollars(points: i64) -> Dollars {
-    Dollars(i128::from(points))
-}
-
 /// What all statements of a book come to together.
 #[derive(Clone, Copy)]
 pub(crate) struct Totals {
     pub(crate) balances: i128,
     pub(crate) residue: i128,
+}
+
+impl From<audit::Totals> for Totals {
+    fn from(totals: audit::Totals) -> Totals {
+        Totals {
+            balances: i128::from(totals.balances),
+            residue: i128::from(totals.residue),
+        }
+    }
 }
 
 impl fmt::Display for Totals {
