@@ -3,8 +3,8 @@ use Rattle.std.proofs.Common.{◌≡◌, ℕ, ◌+◌, ◌<◌, List, [], ◌∷
 use Rattle.std.proofs.lemmas.List.{append-nil, append_assoc, take_all, take_more_set, drop_more, at_drop_all}
 use Rattle.book.specs.declared.months.MonthFigures.{MonthFigures}
 use Rattle.book.specs.Memory.{Memory}
-use Rattle.audit.specs.declared.calls.Answer.{Answer}
 use Rattle.audit.specs.declared.calls.Call.{Call}
+use Rattle.audit.specs.Reading.{Answer}
 use Rattle.audit.specs.Runs.{heard_of, heard, answers_to, memory_after}
 
 module _ (f : MonthFigures) (calls : List Call) (before : Memory) where

@@ -1,9 +1,8 @@
 -- The residue that the answers tell of, from call to call. Assumes nothing.
 use Rattle.std.proofs.Common.{◌≡◌, ℕ, ◌+◌, ◌<◌, ◌≤◌, true, cond, List, ◌∷◌, map, length, get_or, drop, ℤ, pos, nat_abs, sym, ap, ◌∙◌, subst}
 use Rattle.std.proofs.lemmas.List.{drop_more, at_drop_all}
-use Rattle.audit.specs.declared.calls.Answer.{Answer}
 use Rattle.audit.specs.declared.calls.Call.{Call}
-use Rattle.audit.specs.Reading.{request_of, reply_of}
+use Rattle.audit.specs.Reading.{request_of, Answer, reply_of}
 use Rattle.audit.specs.Told.{is_accepted, residue_left, residue_told, Postable, AllMeasured}
 
 module _ (hour : ℕ) (calls : List Call) (answers : List Answer) where

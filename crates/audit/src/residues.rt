@@ -6,6 +6,7 @@ ghost use Rattle.book.specs.Sums.{sum_to_ℤ};
 ghost use Rattle.audit.specs.Reading.{request_of, reply_of};
 ghost use Rattle.audit.specs.Told.{residue_left, residue_told, Postable, AllMeasured};
 
+use crate::calls::replies::is_accepted;
 use crate::calls::{Answer, Call};
 use book::Line;
 use valuation::amount;
@@ -52,7 +53,7 @@ fn hour_residue(hour: u32, calls: &[Call], answers: &[Answer]) -> i64
     let mut residue = 0;
     for (i, call) in calls.iter().enumerate() {
         let answer = &answers[i];
-        if answer.is_accepted() {
+        if is_accepted(answer) {
             residue = residue_left(call, hour, residue);
         }
     }

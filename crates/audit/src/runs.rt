@@ -2,30 +2,17 @@
 ghost use Rattle.std.specs.Prelude.{◌≡◌, length};
 ghost use Rattle.book.specs.Memory.{memory_of};
 ghost use Rattle.book.specs.Months.{figures_of};
-ghost use Rattle.audit.specs.Runs.{heard_of, done_as, stated_as, heard, answers_to, memory_after};
+ghost use Rattle.audit.specs.Runs.{heard_of, done_as, heard, answers_to, memory_after};
 
-use crate::calls::{Answer, Call};
-use book::{Account, Agent, BookFault, Entry, OpenMonth, Statement, post, provisional, withdraw};
+use crate::calls::{Answer, Call, Done};
+use book::{Account, Agent, BookFault, Entry, OpenMonth, post, provisional, withdraw};
 use forms::Contract;
 
 /// What is told of a call that gives nothing back.
 fn told(outcome: Result<(), BookFault>) -> Answer
     ensures { result ≡ done_as outcome }
 {
-    match outcome {
-        Ok(()) => Answer::Accepted,
-        Err(fault) => Answer::Refused(fault),
-    }
-}
-
-/// What is told of a call that gives a statement.
-fn stated(outcome: Result<Statement, BookFault>) -> Answer
-    ensures { result ≡ stated_as outcome }
-{
-    match outcome {
-        Ok(statement) => Answer::Stated(statement),
-        Err(fault) => Answer::Refused(fault),
-    }
+    outcome.map(|()| Done::Accepted)
 }
 
 /// One call on one book.
@@ -55,9 +42,9 @@ pub fn answer(
         Call::Withdraw(hour) => told(withdraw(
             month, *hour, agents, accounts, contracts, marks, entries,
         )),
-        Call::Provisional(agent) => stated(provisional(
+        Call::Provisional(agent) => provisional(
             month, *agent, agents, accounts, contracts, marks, entries,
-        )),
+        ).map(Done::Stated),
     }
 }
 
