@@ -17,11 +17,10 @@ use Rattle.book.specs.Months.{hours_of, size_known, month_figures}
 use Rattle.settlement.specs.Sums.{sum_to_ℤ}
 use Rattle.settlement.proofs.Measured.{unmet}
 use Rattle.settlement.proofs.Sums.{sum_to_ℤ_same, map_counting_same}
-use Rattle.audit.specs.declared.calls.Answer.{Answer}
 use Rattle.audit.specs.declared.calls.Call.{Call}
 use Rattle.audit.specs.Audits.{Lent, audit_fault}
 use Rattle.audit.specs.Law.{Settled}
-use Rattle.audit.specs.Reading.{opening_of, request_of, reply_of, worked_in}
+use Rattle.audit.specs.Reading.{opening_of, request_of, worked_in, Answer, reply_of}
 use Rattle.audit.specs.Requests.{Opening, count_in, hours_in, Request}
 use Rattle.audit.specs.Runs.{no_statement, balance_at, answers_to, memory_after}
 use Rattle.audit.specs.Standing.{nothing_stands, after}

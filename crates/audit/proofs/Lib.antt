@@ -10,8 +10,6 @@ pub mod Keeps
 pub mod Fits
 pub mod Statements
 pub mod Steps
-pub mod Replayed
 pub mod Told
-pub mod Added
 pub mod Run
 pub mod Audited

@@ -7,7 +7,7 @@ use Rattle.book.specs.declared.statements.Statement.{Statement}
 use Rattle.book.specs.Calls.{open_fault}
 use Rattle.settlement.specs.Faults.{met_if, first_met}
 use Rattle.book.specs.Memory.{Memory}
-use Rattle.audit.specs.declared.calls.Answer.{Answer}
+use Rattle.audit.specs.Reading.{Answer}
 
 -- all that a host lends: the book's memory, a place for each answer and one for each statement
 pub record Lent : Type 0 where

@@ -1,11 +1,12 @@
 -- How the host's calls, and what it is told, are read as the subject has them. Assumes nothing.
-use Rattle.std.specs.Prelude.{ℕ, List, vec_items}
+use Rattle.std.specs.Prelude.{ℕ, List, Ok, Err, Result, vec_items}
 use Rattle.settlement.specs.declared.agents.Agent.{Agent}
+use Rattle.settlement.specs.declared.faults.BookFault.{BookFault}
 use Rattle.book.specs.declared.statements.Statement.{Statement}
 use Rattle.audit.specs.declared.calls.Call.{Call}
 use Rattle.audit.specs.declared.calls.Call.TheVariants.{Post, Withdraw, Provisional}
-use Rattle.audit.specs.declared.calls.Answer.{Answer}
-use Rattle.audit.specs.declared.calls.Answer.TheVariants.{Accepted, Stated, Refused}
+use Rattle.audit.specs.declared.calls.Done.{Done}
+use Rattle.audit.specs.declared.calls.Done.TheVariants.{Accepted, Stated}
 use Rattle.audit.specs.Requests.{Opening, Request, posting, withdrawal, statement}
 use Rattle.audit.specs.Worked.{Worked, Reply, accepted, stated, refused}
 
@@ -32,8 +33,12 @@ worked_in st = record {
   peak = st.peak;
 }
 
+-- what a call is answered: that it was done, or the fault for which it was refused
+abbrev pub Answer : Type 0
+Answer = Result Done BookFault
+
 -- what an answer tells
 abbrev pub reply_of : Answer → Reply
-reply_of Accepted = accepted
-reply_of (Stated st) = stated (worked_in st)
-reply_of (Refused fault) = refused fault
+reply_of (Ok Accepted) = accepted
+reply_of (Ok (Stated st)) = stated (worked_in st)
+reply_of (Err fault) = refused fault

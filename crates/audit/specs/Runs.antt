@@ -9,8 +9,8 @@ use Rattle.settlement.specs.Holdings.{no_holding}
 use Rattle.book.specs.Memory.{Memory}
 use Rattle.audit.specs.declared.calls.Call.{Call}
 use Rattle.audit.specs.declared.calls.Call.TheVariants.{Post, Withdraw, Provisional}
-use Rattle.audit.specs.declared.calls.Answer.{Answer}
-use Rattle.audit.specs.declared.calls.Answer.TheVariants.{Accepted, Stated, Refused}
+use Rattle.audit.specs.declared.calls.Done.TheVariants.{Accepted, Stated}
+use Rattle.audit.specs.Reading.{Answer}
 
 -- what a call is answered, and all memory after it
 pub record Heard : Type 0 where
@@ -22,13 +22,13 @@ heard_of answer memory = record { answer = answer; memory = memory }
 
 -- what is told of a call that gives nothing back
 abbrev pub done_as : Result (Unit {0}) BookFault → Answer
-done_as (Ok done) = Accepted
-done_as (Err fault) = Refused fault
+done_as (Ok done) = Ok Accepted
+done_as (Err fault) = Err fault
 
 -- what is told of a call that gives a statement
 abbrev pub stated_as : Result Statement BookFault → Answer
-stated_as (Ok st) = Stated st
-stated_as (Err fault) = Refused fault
+stated_as (Ok st) = Ok (Stated st)
+stated_as (Err fault) = Err fault
 
 abbrev pub done_in : Outcome (Unit {0}) → Heard
 done_in outcome = heard_of (done_as outcome.answer) outcome.memory

@@ -22,13 +22,14 @@ pub enum Call {
     Provisional(u32),
 }
 
-/// What a call is answered.
+/// What a call that is not refused is answered.
 #[derive(Clone, Copy)]
-pub enum Answer {
+pub enum Done {
     /// The hour was posted or withdrawn.
     Accepted,
     /// The statement that was asked for.
     Stated(Statement),
-    /// Nothing was done.
-    Refused(BookFault),
 }
+
+/// What a call is answered: where it is refused, the fault, and nothing was done.
+pub type Answer = Result<Done, BookFault>;

@@ -8,5 +8,6 @@ mod runs;
 mod totals;
 
 pub use audits::{Totals, audit};
-pub use calls::{Answer, Call, Posting};
+pub use calls::replies::is_accepted;
+pub use calls::{Answer, Call, Done, Posting};
 pub use runs::answer;

@@ -1,11 +1,12 @@
 //! The residue of the standing hours, worked from their postings alone.
-ghost use Rattle.std.specs.Prelude.{◌≡◌, ◌≤◌, map, length, pos, unsigned_abs};
+ghost use Rattle.std.specs.Prelude.{◌≡◌, ◌≤◌, map, pos, unsigned_abs};
 ghost use Rattle.settlement.specs.Hour.{residue_of};
 ghost use Rattle.settlement.specs.PostingFaults.{Measured};
 ghost use Rattle.settlement.specs.Sums.{sum_to_ℤ};
 ghost use Rattle.audit.specs.Reading.{request_of, reply_of};
 ghost use Rattle.audit.specs.Told.{residue_left, residue_told, Postable, AllMeasured};
 
+use crate::calls::replies::is_accepted;
 use crate::calls::{Answer, Call};
 use book::Line;
 use valuation::amount;
@@ -44,15 +45,13 @@ fn residue_left(call: &Call, hour: u32, before: i64) -> i64
 
 /// The residue of an hour: that of its last accepted posting, or none where that was withdrawn.
 fn hour_residue(hour: u32, calls: &[Call], answers: &[Answer]) -> i64
-    requires long { length answers.now ≡ length calls.now }
-    requires measured { AllMeasured (map request_of calls.now) (map reply_of answers.now) }
+    requires { AllMeasured (map request_of calls.now) (map reply_of answers.now) }
     ensures value { result ≡ residue_told hour (pos 0) (map request_of calls.now) (map reply_of answers.now) }
     ensures bound { unsigned_abs result ≤ 7680000000000 }
 {
     let mut residue = 0;
-    for (i, call) in calls.iter().enumerate() {
-        let answer = &answers[i];
-        if answer.is_accepted() {
+    for (call, answer) in calls.iter().zip(answers) {
+        if is_accepted(answer) {
             residue = residue_left(call, hour, residue);
         }
     }
@@ -62,7 +61,6 @@ fn hour_residue(hour: u32, calls: &[Call], answers: &[Answer]) -> i64
 /// The residue of the standing hours, of which there are `hours`.
 pub(crate) fn standing_residue(hours: u32, calls: &[Call], answers: &[Answer]) -> i64
     requires few { hours ≤ 744 }
-    requires long { length answers.now ≡ length calls.now }
     requires measured { AllMeasured (map request_of calls.now) (map reply_of answers.now) }
     ensures { result ≡ sum_to_ℤ hours (λ hour. residue_told hour (pos 0) (map request_of calls.now) (map reply_of answers.now)) }
 {

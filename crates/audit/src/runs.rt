@@ -2,30 +2,17 @@
 ghost use Rattle.std.specs.Prelude.{◌≡◌, length};
 ghost use Rattle.book.specs.Memory.{memory_of};
 ghost use Rattle.book.specs.Months.{figures_of};
-ghost use Rattle.audit.specs.Runs.{heard_of, done_as, stated_as, heard, answers_to, memory_after};
+ghost use Rattle.audit.specs.Runs.{heard_of, done_as, heard, answers_to, memory_after};
 
-use crate::calls::{Answer, Call};
-use book::{Account, Agent, BookFault, Entry, OpenMonth, Statement, post, provisional, withdraw};
+use crate::calls::{Answer, Call, Done};
+use book::{Account, Agent, BookFault, Entry, OpenMonth, post, provisional, withdraw};
 use forms::Contract;
 
 /// What is told of a call that gives nothing back.
 fn told(outcome: Result<(), BookFault>) -> Answer
     ensures { result ≡ done_as outcome }
 {
-    match outcome {
-        Ok(()) => Answer::Accepted,
-        Err(fault) => Answer::Refused(fault),
-    }
-}
-
-/// What is told of a call that gives a statement.
-fn stated(outcome: Result<Statement, BookFault>) -> Answer
-    ensures { result ≡ stated_as outcome }
-{
-    match outcome {
-        Ok(statement) => Answer::Stated(statement),
-        Err(fault) => Answer::Refused(fault),
-    }
+    outcome.map(|()| Done::Accepted)
 }
 
 /// One call on one book.
@@ -55,9 +42,9 @@ pub fn answer(
         Call::Withdraw(hour) => told(withdraw(
             month, *hour, agents, accounts, contracts, marks, entries,
         )),
-        Call::Provisional(agent) => stated(provisional(
+        Call::Provisional(agent) => provisional(
             month, *agent, agents, accounts, contracts, marks, entries,
-        )),
+        ).map(Done::Stated),
     }
 }
 
@@ -76,6 +63,7 @@ pub(crate) fn replay(
     ensures told { answers.new ≡ answers_to (figures_of month.now) calls.now (memory_of agents.now accounts.old contracts.now marks.old entries.old) }
     ensures holds { memory_of agents.now accounts.new contracts.now marks.new entries.new ≡ memory_after (figures_of month.now) calls.now (memory_of agents.now accounts.old contracts.now marks.old entries.old) }
 {
+    // Kept by index: of what a zipped `iter_mut` lends, a proof knows nothing afterwards.
     for (i, call) in calls.iter().enumerate() {
         answers[i] = answer(month, call, agents, accounts, contracts, marks, entries);
     }

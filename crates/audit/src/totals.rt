@@ -25,10 +25,10 @@ pub(crate) fn fill_statements(
     requires stored { stored_fits (memory_of agents.now accounts.now contracts.now marks.now entries.now) ≡ true }
     ensures { statements.new ≡ map (λ i. statement_in (hours_of (figures_of month.now).days) i (memory_of agents.now accounts.now contracts.now marks.now entries.now)) (range_with_len 0 (figures_of month.now).agents) }
 {
-    for agent in 0..month.figures().agents {
-        statements[agent as usize] = provisional(
+    for (i, statement) in statements.iter_mut().enumerate() {
+        *statement = provisional(
             month,
-            agent + 1,
+            i as u32 + 1,
             agents,
             accounts,
             contracts,

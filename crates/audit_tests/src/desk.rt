@@ -1,5 +1,5 @@
 //! A list of calls audited on a book of a generator and a distributor over one day.
-use audit::{Answer, Call, Posting, Totals, audit};
+use audit::{Answer, Call, Done, Posting, Totals, audit};
 use book::{Agent, BookFault, Entry, Line, Statement};
 use forms::Contract;
 use std::alloc::{AllocError, Global};
@@ -92,12 +92,12 @@ fn calls_of(heap: Global, steps: &[Step]) -> Result<Vec<Call>, AllocError> {
 
 fn told_of(answer: &Answer) -> Told {
     match answer {
-        Answer::Accepted => DONE,
-        Answer::Stated(statement) => Told {
+        Ok(Done::Accepted) => DONE,
+        Ok(Done::Stated(statement)) => Told {
             balance: statement.balance,
             ..DONE
         },
-        Answer::Refused(fault) => Told {
+        Err(fault) => Told {
             number: fault.number(),
             place: fault.place(),
             balance: 0,
@@ -148,7 +148,7 @@ fn settle(
 fn came_to(settled: Result<Totals, BookFault>, statements: &[Statement; 3]) -> Outcome {
     let (fault, balances, residue) = match settled {
         Ok(totals) => (DONE, totals.balances, totals.residue),
-        Err(fault) => (told_of(&Answer::Refused(fault)), 0, 0),
+        Err(fault) => (told_of(&Err(fault)), 0, 0),
     };
     Outcome {
         fault,
@@ -180,7 +180,7 @@ pub(crate) fn audited(
         energy: Energy::neutral(),
         peak: Peak::neutral(),
     };
-    let mut answers = [Answer::Accepted; 8];
+    let mut answers = [Ok(Done::Accepted); 8];
     let mut statements = [blank; 3];
     let result = settle(
         setting,

@@ -3,16 +3,11 @@ ghost use Rattle.std.specs.Prelude.{◌≡◌};
 ghost use Rattle.audit.specs.Reading.{reply_of};
 ghost use Rattle.audit.specs.Told.{is_accepted};
 
-use crate::calls::Answer;
+use crate::calls::{Answer, Done};
 
-impl Answer {
-    /// Whether an hour was posted or withdrawn.
-    pub fn is_accepted(&self) -> bool
-        ensures { result ≡ is_accepted (reply_of self.now) }
-    {
-        match self {
-            Answer::Accepted => true,
-            Answer::Stated(_) | Answer::Refused(_) => false,
-        }
-    }
+/// Whether an hour was posted or withdrawn.
+pub fn is_accepted(answer: &Answer) -> bool
+    ensures { result ≡ is_accepted (reply_of answer.now) }
+{
+    matches!(answer, Ok(Done::Accepted))
 }

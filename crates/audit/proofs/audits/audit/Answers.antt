@@ -61,7 +61,6 @@ standing_residue-requires c =
     let r = ran (goal.at.standing_residue-requires c).After-replay in
     record {
       few = omega (arith, ap (λ f. f.days) c.retire-figures.ensures, ran_days _ _ _ _ _ r);
-      long = omega (arith, c.replay.auto.answers, c.if-answers-calls.false);
       measured = ran_measured _ _ _ _ _ r;
     }
 

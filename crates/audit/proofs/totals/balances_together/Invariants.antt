@@ -4,4 +4,7 @@ use Rattle.audit.specs.Runs.{balance_at}
 use Rattle.audit.proofs.totals.balances_together.Given as goal
 
 abbrev pub invariant-loop-statement : goal.invariant-loop-statement
-invariant-loop-statement l = (l.sum ≡ sum_to_ℤ l.statement-index (balance_at l.statements)) × (nat_abs l.sum ≤ l.statement-index * 10000000000000000)
+invariant-loop-statement l = record {
+  total : l.sum ≡ sum_to_ℤ l.statement-index (balance_at l.statements);
+  small : nat_abs l.sum ≤ l.statement-index * 10000000000000000;
+}
