@@ -1,12 +1,11 @@
 //! Calls one after another.
 ghost use Rattle.std.specs.Prelude.{◌≡◌, length};
-ghost use Rattle.book.specs.Memory.{memory_of};
+ghost use Rattle.book.specs.Lent.{memory_in, SameLoan};
 ghost use Rattle.book.specs.Months.{figures_of};
 ghost use Rattle.audit.specs.Runs.{heard_of, done_as, heard, answers_to, memory_after};
 
 use crate::calls::{Answer, Call, Done};
-use book::{Account, Agent, BookFault, Entry, OpenMonth, post, provisional, withdraw};
-use forms::Contract;
+use book::{BookFault, Ledger, OpenMonth, Pool, post, provisional, withdraw};
 
 /// What is told of a call that gives nothing back.
 fn told(outcome: Result<(), BookFault>) -> Answer
@@ -19,13 +18,11 @@ fn told(outcome: Result<(), BookFault>) -> Answer
 pub fn answer(
     month: &OpenMonth,
     call: &Call,
-    agents: &[Agent],
-    accounts: &mut [Account],
-    contracts: &[Option<Contract>],
-    marks: &mut [u8],
-    entries: &mut [Entry],
+    pool: &Pool<'_>,
+    ledger: &mut Ledger<'_>,
 ) -> Answer
-    ensures { heard_of result (memory_of agents.now accounts.new contracts.now marks.new entries.new) ≡ heard (figures_of month.now) call.now (memory_of agents.now accounts.old contracts.now marks.old entries.old) }
+    ensures lent { SameLoan ledger.old ledger.new }
+    ensures value { heard_of result (memory_in pool.now ledger.new) ≡ heard (figures_of month.now) call.now (memory_in pool.now ledger.old) }
 {
     match call {
         Call::Post(posting) => told(post(
@@ -33,18 +30,13 @@ pub fn answer(
             posting.hour,
             posting.price,
             &posting.lines,
-            agents,
-            accounts,
-            contracts,
-            marks,
-            entries,
+            pool,
+            ledger,
         )),
-        Call::Withdraw(hour) => told(withdraw(
-            month, *hour, agents, accounts, contracts, marks, entries,
-        )),
-        Call::Provisional(agent) => provisional(
-            month, *agent, agents, accounts, contracts, marks, entries,
-        ).map(Done::Stated),
+        Call::Withdraw(hour) => told(withdraw(month, *hour, pool, ledger)),
+        Call::Provisional(agent) => {
+            provisional(month, *agent, &ledger.view(pool)).map(Done::Stated)
+        }
     }
 }
 
@@ -52,19 +44,17 @@ pub fn answer(
 pub(crate) fn replay(
     month: &OpenMonth,
     calls: &[Call],
-    agents: &[Agent],
-    accounts: &mut [Account],
-    contracts: &[Option<Contract>],
-    marks: &mut [u8],
-    entries: &mut [Entry],
+    pool: &Pool<'_>,
+    ledger: &mut Ledger<'_>,
     answers: &mut [Answer],
 )
     requires { length answers.old ≡ length calls.now }
-    ensures told { answers.new ≡ answers_to (figures_of month.now) calls.now (memory_of agents.now accounts.old contracts.now marks.old entries.old) }
-    ensures holds { memory_of agents.now accounts.new contracts.now marks.new entries.new ≡ memory_after (figures_of month.now) calls.now (memory_of agents.now accounts.old contracts.now marks.old entries.old) }
+    ensures lent { SameLoan ledger.old ledger.new }
+    ensures told { answers.new ≡ answers_to (figures_of month.now) calls.now (memory_in pool.now ledger.old) }
+    ensures holds { memory_in pool.now ledger.new ≡ memory_after (figures_of month.now) calls.now (memory_in pool.now ledger.old) }
 {
     // Kept by index: of what a zipped `iter_mut` lends, a proof knows nothing afterwards.
     for (i, call) in calls.iter().enumerate() {
-        answers[i] = answer(month, call, agents, accounts, contracts, marks, entries);
+        answers[i] = answer(month, call, pool, ledger);
     }
 }

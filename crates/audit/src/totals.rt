@@ -2,40 +2,27 @@
 ghost use Rattle.std.specs.Prelude.{◌≡◌, ℕ, ◌<◌, ◌≤◌, true, map, length, unsigned_abs};
 ghost use Rattle.std.specs.List.{range_with_len};
 ghost use Rattle.book.specs.Calls.{statement_in};
-ghost use Rattle.book.specs.Memory.{memory_of, sized, stored_fits};
+ghost use Rattle.book.specs.Lent.{memory_seen};
+ghost use Rattle.book.specs.Memory.{sized, stored_fits};
 ghost use Rattle.book.specs.Months.{figures_of, hours_of};
 ghost use Rattle.settlement.specs.Sums.{sum_to_ℤ};
 ghost use Rattle.audit.specs.Runs.{balance_at};
 
-use book::{Account, Agent, Entry, OpenMonth, Statement, provisional};
-use forms::Contract;
+use book::{OpenMonth, Statement, View, provisional};
 
 /// Writes the provisional statement of every agent to its place.
 pub(crate) fn fill_statements(
     month: &OpenMonth,
-    agents: &[Agent],
-    accounts: &[Account],
-    contracts: &[Option<Contract>],
-    marks: &[u8],
-    entries: &[Entry],
+    view: &View<'_, '_>,
     statements: &mut [Statement],
 )
     requires long { length statements.old ≡ (figures_of month.now).agents }
-    requires sized { sized (figures_of month.now).agents (hours_of (figures_of month.now).days) (memory_of agents.now accounts.now contracts.now marks.now entries.now) ≡ true }
-    requires stored { stored_fits (memory_of agents.now accounts.now contracts.now marks.now entries.now) ≡ true }
-    ensures { statements.new ≡ map (λ i. statement_in (hours_of (figures_of month.now).days) i (memory_of agents.now accounts.now contracts.now marks.now entries.now)) (range_with_len 0 (figures_of month.now).agents) }
+    requires sized { sized (figures_of month.now).agents (hours_of (figures_of month.now).days) (memory_seen view.now) ≡ true }
+    requires stored { stored_fits (memory_seen view.now) ≡ true }
+    ensures { statements.new ≡ map (λ i. statement_in (hours_of (figures_of month.now).days) i (memory_seen view.now)) (range_with_len 0 (figures_of month.now).agents) }
 {
     for (i, statement) in statements.iter_mut().enumerate() {
-        *statement = provisional(
-            month,
-            i as u32 + 1,
-            agents,
-            accounts,
-            contracts,
-            marks,
-            entries,
-        )
-        .unwrap();
+        *statement = provisional(month, i as u32 + 1, view).unwrap();
     }
 }
 

@@ -34,7 +34,7 @@ pub fn open(
     if !ledger.view(&pool).is_sized(count, days) {
         return Err(BookFault::WrongSize);
     }
-    let Some(first) = Weekday::from_number(weekday) else {
+    let Ok(first) = Weekday::try_from(weekday) else {
         return Err(BookFault::OutsideBook);
     };
     if !agents_fit(agents) {

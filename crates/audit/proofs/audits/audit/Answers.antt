@@ -3,8 +3,9 @@ use Rattle.std.proofs.lemmas.Result.{err_from_is_err_and}
 use Rattle.std.proofs.lemmas.Int.{to_z-of_z}
 use Rattle.book.specs.declared.months.MonthFigures.{MonthFigures}
 use Rattle.book.specs.Calls.{open_fault, emptied}
-use Rattle.book.specs.Memory.{Memory, memory_of}
-use Rattle.book.specs.Months.{month_figures, figures_of}
+use Rattle.book.specs.Memory.{Memory}
+use Rattle.book.specs.Lent.{memory_with}
+use Rattle.book.specs.Months.{figures_of}
 use Rattle.settlement.specs.Sums.{sum_to_ℤ}
 use Rattle.audit.specs.Audits.{lent_of}
 use Rattle.audit.specs.Reading.{request_of, reply_of}
@@ -16,22 +17,22 @@ use Rattle.audit.proofs.audits.audit.Goals.{After-replay}
 
 -- the book's memory as it was lent, and once the calls are made
 abbrev lent : After-replay → Memory
-lent c = memory_of c.args.agents.now c.args.accounts.now c.args.contracts.now c.args.marks.now c.args.entries.now
+lent c = memory_with c.args.agents.now c.args.contracts.now c.args.ledger.now
 
 abbrev held : After-replay → Memory
-held c = memory_of c.args.agents.now c.replay.new.accounts c.open.new.contracts c.replay.new.marks c.replay.new.entries
+held c = memory_with c.args.agents.now c.open.new.contracts c.replay.new.ledger
 
 ran : (c : After-replay) → Ran (figures_of c.in_ok-month.month) (lent c) c.args.calls.now c.replay.new.answers (held c)
 ran c =
-    ran_from (month_figures c.args.count c.args.days c.args.weekday) (figures_of c.in_ok-month.month) (lent c) _ c.args.calls.now c.replay.new.answers (held c)
-    c.in_ok-month.ensures c.replay.ensures.told c.replay.ensures.holds
+    ran_from (c.args.figures) (figures_of c.in_ok-month.month) (lent c) _ c.args.calls.now c.replay.new.answers (held c)
+    c.in_ok-month.ensures.value c.replay.ensures.told c.replay.ensures.holds
 
 pub returns-in_err-month : goal.returns-in_err-month
 returns-in_err-month c =
-    let f : MonthFigures = month_figures c.args.count c.args.days c.args.weekday in
-    let m : Memory = memory_of c.args.agents.now c.args.accounts.now c.args.contracts.now c.args.marks.now c.args.entries.now in
+    let f : MonthFigures = c.args.figures in
+    let m : Memory = memory_with c.args.agents.now c.args.contracts.now c.args.ledger.now in
     let p = err_from_is_err_and c.from_residual.result c.from_residual.ensures.1 in
-    let left = open_refused (open_fault f m) f c.in_err-month.field-0.0 m _ (emptied m) c.in_err-month.ensures in
+    let left = open_refused (open_fault f m) f c.in_err-month.field-0.0 m _ (emptied m) c.in_err-month.ensures.value in
     rw (p.1, p.2) (record {
       fault = sym (audit_opening f _ (lent_of m c.args.answers.now c.args.statements.now) c.if-answers-calls.false c.if-statements-agents.false ∙ left.0);
       untouched = ap (λ memory. lent_of memory c.args.answers.now c.args.statements.now) left.1;
@@ -67,9 +68,9 @@ standing_residue-requires c =
 pub returns : goal.returns
 returns c =
     let replayed = (goal.at.returns c).After-replay in
-    let f : MonthFigures = month_figures c.args.count c.args.days c.args.weekday in
+    let f : MonthFigures = c.args.figures in
     let m : Memory = lent replayed in
-    let came = open_accepted (open_fault f m) f (figures_of c.in_ok-month.month) m _ (emptied m) c.in_ok-month.ensures in
+    let came = open_accepted (open_fault f m) f (figures_of c.in_ok-month.month) m _ (emptied m) c.in_ok-month.ensures.value in
     let told : ℕ → ℤ = λ hour. residue_told hour (pos 0) (map request_of c.args.calls.now) (map reply_of c.replay.new.answers) in
     record {
       fault = sym (audit_opening f _ (lent_of m c.args.answers.now c.args.statements.now) c.if-answers-calls.false c.if-statements-agents.false ∙ came.0);

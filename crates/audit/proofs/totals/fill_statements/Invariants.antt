@@ -1,6 +1,6 @@
 use Rattle.std.proofs.Common.{◌≡◌, ℕ, ◌<◌, length, get_or}
 use Rattle.book.specs.Calls.{statement_in}
-use Rattle.book.specs.Memory.{memory_of}
+use Rattle.book.specs.Lent.{memory_seen}
 use Rattle.book.specs.Months.{figures_of, hours_of}
 use Rattle.audit.specs.Runs.{no_statement}
 use Rattle.audit.proofs.totals.fill_statements.Given as goal
@@ -8,5 +8,5 @@ use Rattle.audit.proofs.totals.fill_statements.Given as goal
 abbrev pub invariant-loop-i : goal.invariant-loop-i
 invariant-loop-i l = record {
   long : length l.statements ≡ (figures_of l.month).agents;
-  filled : (k : ℕ) → k < l.i → get_or l.statements k no_statement ≡ statement_in (hours_of (figures_of l.month).days) k (memory_of l.agents l.accounts l.contracts l.marks l.entries);
+  filled : (k : ℕ) → k < l.i → get_or l.statements k no_statement ≡ statement_in (hours_of (figures_of l.month).days) k (memory_seen l.view);
 }
