@@ -1,4 +1,3 @@
-pub mod Roles
 pub mod Terms
 pub mod Measured
 pub mod Meaning

@@ -3,8 +3,7 @@ ghost use Rattle.forms.specs.Layers.{by_kind};
 ghost use Rattle.forms.specs.Kept.{by_kind_keeps};
 
 use crate::form::ContractForm;
-use crate::hour::ContractHour;
-use crate::{Contract, Legs, Parties};
+use crate::{Contract, Facts, Legs, Parties};
 
 /// Two forms as one: terms of the named kind go to the first, all others to the second.
 #[derive(Clone, Copy)]
@@ -27,19 +26,19 @@ impl<A: ContractForm, B: ContractForm> ContractForm for ByKind<A, B> {
         }
     }
 
-    fn quantity(&self, hour: ContractHour) -> u32 {
-        if hour.terms.kind == self.kind {
-            self.first.quantity(hour)
+    fn quantity(&self, terms: Contract, parties: Parties, facts: Facts) -> u32 {
+        if terms.kind == self.kind {
+            self.first.quantity(terms, parties, facts)
         } else {
-            self.second.quantity(hour)
+            self.second.quantity(terms, parties, facts)
         }
     }
 
-    fn legs(&self, hour: ContractHour, quantity: u32) -> Legs {
-        if hour.terms.kind == self.kind {
-            self.first.legs(hour, quantity)
+    fn legs(&self, terms: Contract, parties: Parties, facts: Facts, quantity: u32) -> Legs {
+        if terms.kind == self.kind {
+            self.first.legs(terms, parties, facts, quantity)
         } else {
-            self.second.legs(hour, quantity)
+            self.second.legs(terms, parties, facts, quantity)
         }
     }
 }

@@ -3,8 +3,7 @@ ghost use Rattle.forms.specs.Layers.{capped};
 ghost use Rattle.std.proofs.Common.{rules};
 
 use crate::form::ContractForm;
-use crate::hour::ContractHour;
-use crate::{Contract, Legs, Parties};
+use crate::{Contract, Facts, Legs, Parties};
 
 /// A form whose quantities are lowered to the seller's capacity.
 #[derive(Clone, Copy)]
@@ -21,11 +20,13 @@ impl<F: ContractForm> ContractForm for Ceiling<F> {
         self.form.takes(terms, parties)
     }
 
-    fn quantity(&self, hour: ContractHour) -> u32 {
-        self.form.quantity(hour).min(hour.parties.seller.capacity)
+    fn quantity(&self, terms: Contract, parties: Parties, facts: Facts) -> u32 {
+        self.form
+            .quantity(terms, parties, facts)
+            .min(parties.seller.capacity)
     }
 
-    fn legs(&self, hour: ContractHour, quantity: u32) -> Legs {
-        self.form.legs(hour, quantity)
+    fn legs(&self, terms: Contract, parties: Parties, facts: Facts, quantity: u32) -> Legs {
+        self.form.legs(terms, parties, facts, quantity)
     }
 }
