@@ -1,6 +1,6 @@
 //! A list of calls audited on a book of a generator and a distributor over one day.
 use audit::{Answer, Call, Done, Posting, Totals, audit};
-use book::{Agent, BookFault, Entry, Line, Statement};
+use book::{Agent, BookFault, Entry, Ledger, Line, MonthFigures, Statement};
 use forms::Contract;
 use std::alloc::{AllocError, Global};
 use tally::{Energy, Money, Pair, Peak, Tally};
@@ -129,16 +129,22 @@ fn settle(
     let mut contracts: [Option<Contract>; 64] = [None; 64];
     let mut marks = [1u8; 24];
     let mut entries = [nothing; 48];
+    let mut ledger = Ledger {
+        accounts: &mut accounts,
+        marks: &mut marks,
+        entries: &mut entries,
+    };
+    let figures = MonthFigures {
+        agents: setting.count,
+        days: setting.days,
+        weekday: setting.weekday,
+    };
     audit(
-        setting.count,
-        setting.days,
-        setting.weekday,
+        figures,
         calls,
         &AGENTS,
-        &mut accounts,
         &mut contracts,
-        &mut marks,
-        &mut entries,
+        &mut ledger,
         answers,
         statements,
     )

@@ -2,7 +2,7 @@
 use crate::choices::Choice;
 use crate::expected::Expected;
 use crate::fields::Fields;
-use book::{Agent, Line};
+use book::{Agent, Line, MonthFigures};
 
 /// What one journal line says.
 #[derive(Clone, Copy)]
@@ -18,11 +18,7 @@ pub(crate) enum Entry {
 /// A call that a journal asks for. The agents of an opening and the lines of a posting follow it.
 #[derive(Clone, Copy)]
 pub(crate) enum Request {
-    Open {
-        agents: u32,
-        days: u32,
-        weekday: u32,
-    },
+    Open(MonthFigures),
     Post {
         hour: u32,
         price: u32,
@@ -71,11 +67,11 @@ fn opening(mut fields: Fields) -> Result<Entry, Expected> {
     let days = fields.figure("days")?;
     let weekday = fields.choice(Choice::Weekday)?;
     fields.end()?;
-    Ok(Entry::Call(Request::Open {
+    Ok(Entry::Call(Request::Open(MonthFigures {
         agents,
         days,
         weekday,
-    }))
+    })))
 }
 
 fn agent(mut fields: Fields) -> Result<Entry, Expected> {

@@ -1,8 +1,8 @@
 //! A book with the memory that the program lends it.
 use crate::expected::Expected;
 use crate::words::Provisional;
-use audit::{Answer, Call, Posting, Totals};
-use book::{Account, Agent, BookFault, Entry, OpenMonth, Statement};
+use audit::{Answer, Call, Done, Posting, Totals};
+use book::{Account, Agent, BookFault, Entry, MonthFigures, OpenMonth, Pool, Statement};
 use forms::Contract;
 use std::alloc::{AllocError, Global};
 use tally::{Energy, Money, Pair, Peak, Tally};
@@ -14,9 +14,7 @@ pub(crate) type Heard<T> = Result<Result<T, BookFault>, AllocError>;
 /// A book to open, with the agents that have been read so far.
 #[derive(Drop)]
 pub(crate) struct Opening {
-    pub(crate) count: u32,
-    pub(crate) days: u32,
-    pub(crate) weekday: u32,
+    pub(crate) figures: MonthFigures,
     pub(crate) agents: Vec<Agent>,
 }
 
@@ -28,12 +26,12 @@ impl Opening {
 
     /// Whether the last agent has been read.
     pub(crate) fn is_complete(&self) -> bool {
-        self.agents.len() >= self.count as usize
+        self.agents.len() >= self.figures.agents as usize
     }
 
     /// The agent line that the opening waits for.
     pub(crate) fn awaited(&self) -> Expected {
-        Expected::AgentLine(self.next(), self.count)
+        Expected::AgentLine(self.next(), self.figures.agents)
     }
 }
 
@@ -57,8 +55,9 @@ struct Sizes {
 }
 
 impl Sizes {
-    /// The sizes of a book of so many agents and days, where a book has as many.
-    fn of(agents: u32, days: u32) -> Option<Sizes> {
+    /// The sizes of a book with these figures, where a book may have as many agents and days.
+    fn of(figures: MonthFigures) -> Option<Sizes> {
+        let MonthFigures { agents, days, .. } = figures;
         if agents < 1 || agents > 64 || days < 1 || days > 31 {
             return None;
         }
@@ -72,25 +71,44 @@ impl Sizes {
     }
 }
 
-/// Accounts, contract places, marks and entries.
+/// Accounts, marks and entries.
 #[derive(Drop)]
-struct Memory {
+struct Records {
     accounts: Vec<Account>,
-    contracts: Vec<Option<Contract>>,
     marks: Vec<u8>,
     entries: Vec<Entry>,
 }
 
+impl Records {
+    /// All of them, lent to a call.
+    fn lend(&mut self) -> book::Ledger<'_> {
+        book::Ledger {
+            accounts: &mut self.accounts,
+            marks: &mut self.marks,
+            entries: &mut self.entries,
+        }
+    }
+}
+
+/// The memory of a book: contract places, and the records.
+#[derive(Drop)]
+struct Memory {
+    contracts: Vec<Option<Contract>>,
+    records: Records,
+}
+
 impl Memory {
-    /// The memory of a book of so many agents and days; nothing where no book has as many.
-    fn new(heap: Global, agents: u32, days: u32) -> Result<Memory, AllocError> {
-        let sizes = Sizes::of(agents, days).unwrap_or_default();
+    /// The memory of a book with these figures; nothing where no book has as many agents and days.
+    fn new(heap: Global, figures: MonthFigures) -> Result<Memory, AllocError> {
+        let sizes = Sizes::of(figures).unwrap_or_default();
         let neutral: Entry = Pair::neutral();
         Ok(Memory {
-            accounts: vec![in heap; neutral; sizes.accounts]?,
             contracts: vec![in heap; None; sizes.contracts]?,
-            marks: vec![in heap; 0; sizes.marks]?,
-            entries: vec![in heap; neutral; sizes.entries]?,
+            records: Records {
+                accounts: vec![in heap; neutral; sizes.accounts]?,
+                marks: vec![in heap; 0; sizes.marks]?,
+                entries: vec![in heap; neutral; sizes.entries]?,
+            },
         })
     }
 }
@@ -107,16 +125,12 @@ pub(crate) struct Ledger {
 impl Ledger {
     /// Opens a book in memory of its own.
     pub(crate) fn open(heap: Global, opening: Opening) -> Heard<Ledger> {
-        let mut memory = Memory::new(heap, opening.count, opening.days)?;
+        let mut memory = Memory::new(heap, opening.figures)?;
         match book::open(
-            opening.count,
-            opening.days,
-            opening.weekday,
+            opening.figures,
             &opening.agents,
-            &mut memory.accounts,
             &mut memory.contracts,
-            &mut memory.marks,
-            &mut memory.entries,
+            &mut memory.records.lend(),
         ) {
             Ok(month) => Ok(Ok(Ledger {
                 heap,
@@ -131,16 +145,17 @@ impl Ledger {
 
     /// Posts an hour.
     pub(crate) fn post(&mut self, posting: Posting) -> Heard<()> {
+        let pool = Pool {
+            agents: &self.opening.agents,
+            contracts: &self.memory.contracts,
+        };
         let answer = book::post(
             &self.month,
             posting.hour,
             posting.price,
             &posting.lines,
-            &self.opening.agents,
-            &mut self.memory.accounts,
-            &self.memory.contracts,
-            &mut self.memory.marks,
-            &mut self.memory.entries,
+            &pool,
+            &mut self.memory.records.lend(),
         );
         self.calls.push(Call::Post(posting))?;
         Ok(answer)
@@ -148,30 +163,23 @@ impl Ledger {
 
     /// Withdraws an hour.
     pub(crate) fn withdraw(&mut self, hour: u32) -> Heard<()> {
-        let answer = book::withdraw(
-            &self.month,
-            hour,
-            &self.opening.agents,
-            &mut self.memory.accounts,
-            &self.memory.contracts,
-            &mut self.memory.marks,
-            &mut self.memory.entries,
-        );
+        let pool = Pool {
+            agents: &self.opening.agents,
+            contracts: &self.memory.contracts,
+        };
+        let answer = book::withdraw(&self.month, hour, &pool, &mut self.memory.records.lend());
         self.calls.push(Call::Withdraw(hour))?;
         Ok(answer)
     }
 
     /// The provisional statement of an agent.
     pub(crate) fn provisional(&mut self, agent: u32) -> Heard<Provisional> {
-        let answer = book::provisional(
-            &self.month,
-            agent,
-            &self.opening.agents,
-            &self.memory.accounts,
-            &self.memory.contracts,
-            &self.memory.marks,
-            &self.memory.entries,
-        );
+        let pool = Pool {
+            agents: &self.opening.agents,
+            contracts: &self.memory.contracts,
+        };
+        let lent = self.memory.records.lend();
+        let answer = book::provisional(&self.month, agent, &lent.view(&pool));
         self.calls.push(Call::Provisional(agent))?;
         let role = self.role(agent);
         Ok(answer.map(|statement| Provisional {
@@ -183,7 +191,7 @@ impl Ledger {
 
     /// How many agents the book has.
     pub(crate) fn count(&self) -> u32 {
-        self.opening.count
+        self.opening.figures.agents
     }
 
     /// The role of an agent, where the book has one of the number.
@@ -194,19 +202,15 @@ impl Ledger {
 
     /// Settles the same calls again in other memory, for the totals.
     pub(crate) fn totals(&self) -> Heard<Totals> {
-        let mut memory = Memory::new(self.heap, self.opening.count, self.opening.days)?;
-        let mut answers = vec![in self.heap; Answer::Accepted; self.calls.len()]?;
+        let mut memory = Memory::new(self.heap, self.opening.figures)?;
+        let mut answers: Vec<Answer> = vec![in self.heap; Ok(Done::Accepted); self.calls.len()]?;
         let mut statements = vec![in self.heap; blank_statement(); self.opening.agents.len()]?;
         Ok(audit::audit(
-            self.opening.count,
-            self.opening.days,
-            self.opening.weekday,
+            self.opening.figures,
             &self.calls,
             &self.opening.agents,
-            &mut memory.accounts,
             &mut memory.contracts,
-            &mut memory.marks,
-            &mut memory.entries,
+            &mut memory.records.lend(),
             &mut answers,
             &mut statements,
         ))

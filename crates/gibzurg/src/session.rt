@@ -126,15 +126,9 @@ impl<'a> Session<'a> {
     /// Begins or makes a call.
     fn begin(&mut self, voice: Voice<'a>, request: Request) -> Result<(), Trouble> {
         match request {
-            Request::Open {
-                agents,
-                days,
-                weekday,
-            } => {
+            Request::Open(figures) => {
                 let opening = Opening {
-                    count: agents,
-                    days,
-                    weekday,
+                    figures,
                     agents: Vec::new(self.heap),
                 };
                 self.open_if_complete(voice, opening)
