@@ -43,6 +43,7 @@ pub fn audit(
     ensures memory { OnOk result (memory_of agents.now accounts.new contracts.new marks.new entries.new ≡ memory_after (month_figures count days weekday) calls.now (emptied (memory_of agents.now accounts.old contracts.old marks.old entries.old))) }
     ensures settled { IfOk result (λ totals. Settled (opening_of days weekday agents.now) (map request_of calls.now) (map reply_of answers.new) (map worked_in statements.new) totals.balances totals.residue) }
 {
+    // Kept: calls and answers lie apart, since the host lends the answers' places (no heap, fixed memory).
     if answers.len() != calls.len() || statements.len() != agents.len() {
         return Err(BookFault::WrongSize);
     }

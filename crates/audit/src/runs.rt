@@ -63,7 +63,7 @@ pub(crate) fn replay(
     ensures told { answers.new ≡ answers_to (figures_of month.now) calls.now (memory_of agents.now accounts.old contracts.now marks.old entries.old) }
     ensures holds { memory_of agents.now accounts.new contracts.now marks.new entries.new ≡ memory_after (figures_of month.now) calls.now (memory_of agents.now accounts.old contracts.now marks.old entries.old) }
 {
-    // Kept by index: of what a zipped `iter_mut` lends, a proof knows nothing afterwards.
+    // Kept: a zip with `answers.iter_mut()` was tried, and a proof then knows nothing of the answers.
     for (i, call) in calls.iter().enumerate() {
         answers[i] = answer(month, call, agents, accounts, contracts, marks, entries);
     }
