@@ -1,16 +1,16 @@
 -- A whole audit: from what its parts ensure to the law. Assumes nothing.
-use Rattle.std.proofs.Common.{◌≡◌, ℕ, ◌*◌, ◌<◌, ◌≤◌, true, not, ◌||◌, ltb, leb, List, [], ◌∷◌, map, length, ℤ, pos, neg_ℤ, nat_abs, Some, None, Ok, Err, Option, sym, refl, ap, ◌∙◌, subst, arith}
+use Rattle.std.proofs.Common.{◌≡◌, ℕ, ◌*◌, ◌<◌, ◌≤◌, true, not, ◌||◌, ltb, leb, List, [], ◌∷◌, map, length, ℤ, pos, neg_ℤ, nat_abs, Some, None, Ok, Option, sym, refl, ap, ◌∙◌, subst, arith}
 use mathlib.Core.List.{map-map}
 use Rattle.std.specs.List.{range_with_len}
 use Rattle.std.proofs.lemmas.List.FromFn.{length-map-range_with_len, get_or-map-range_with_len}
-use Rattle.std.proofs.lemmas.Bool.{and_from, and_parts, or_parts, not-false, leb-true, ltb-false, eqb-true, eq-eqb}
+use Rattle.std.proofs.lemmas.Bool.{and_parts, or_parts, not-false, leb-true, ltb-false, eqb-true}
 use Rattle.settlement.specs.declared.faults.BookFault.{BookFault}
-use Rattle.settlement.specs.declared.faults.BookFault.TheVariants.{WrongSize, OutsideBook}
+use Rattle.settlement.specs.declared.faults.BookFault.TheVariants.{OutsideBook}
 use Rattle.book.specs.declared.months.MonthFigures.{MonthFigures}
 use Rattle.book.specs.declared.statements.Statement.{Statement}
 use Rattle.settlement.specs.Agents.{agent_fits}
 use Rattle.book.specs.Calls.{outcome, outcome_of, open_fault, emptied, opened, statement_in}
-use Rattle.settlement.specs.Faults.{met_if, first_met}
+use Rattle.settlement.specs.Faults.{met_if}
 use Rattle.settlement.specs.Sums.{all_of}
 use Rattle.book.specs.Memory.{Memory, sized, stored_fits, size_fault}
 use Rattle.book.specs.Months.{hours_of, size_known, month_figures}
@@ -18,7 +18,6 @@ use Rattle.settlement.specs.Sums.{sum_to_ℤ}
 use Rattle.settlement.proofs.Measured.{unmet}
 use Rattle.settlement.proofs.Sums.{sum_to_ℤ_same, map_counting_same}
 use Rattle.audit.specs.declared.calls.Call.{Call}
-use Rattle.audit.specs.Audits.{Lent, audit_fault}
 use Rattle.audit.specs.Law.{Settled}
 use Rattle.audit.specs.Reading.{opening_of, request_of, worked_in, Answer, reply_of}
 use Rattle.audit.specs.Requests.{Opening, count_in, hours_in, Request}
@@ -28,7 +27,7 @@ use Rattle.audit.specs.Told.{residue_told, AllMeasured}
 use Rattle.audit.specs.Worked.{worked, replies_from, balance_of, balances_after, residue_after}
 use Rattle.audit.proofs.Balance.{balanced}
 use Rattle.audit.proofs.Bounds.{balance_abs}
-use Rattle.audit.proofs.Checked.{NoneMet, first_met_none, first_met_one}
+use Rattle.audit.proofs.Checked.{NoneMet, first_met_none}
 use Rattle.audit.proofs.Fits.{holds_fits}
 use Rattle.audit.proofs.Holds.{figures_in, Holds}
 use Rattle.audit.proofs.Keeps.{holds_emptied}
@@ -39,20 +38,10 @@ use Rattle.audit.proofs.Statements.{statements_step}
 
 -- ---- the opening
 
--- where there is a place for each answer and each statement, an audit is refused as its opening is
-pub audit_opening : (f : MonthFigures) (calls : ℕ) (lent : Lent) → length lent.answers ≡ calls → length lent.statements ≡ length lent.memory.agents → audit_fault f calls lent ≡ open_fault f lent.memory
-audit_opening f calls lent answers statements =
-    ap (λ test. first_met (met_if (not test) WrongSize ∷ open_fault f lent.memory ∷ [])) (and_from _ _ (eq-eqb _ _ answers) (eq-eqb _ _ statements))
-    ∙ first_met_one (open_fault f lent.memory)
-
--- an opening that gave a month met no fault, and emptied memory; one that was refused left it
+-- an opening that gave a month met no fault, and emptied memory
 pub open_accepted : (met : Option BookFault) (f g : MonthFigures) (m m' after : Memory) → outcome_of (Ok g) m' ≡ outcome met f m after → (met ≡ None) × (g ≡ f) × (m' ≡ after)
 open_accepted None f g m m' after came = let same = ap (λ x. x.answer) came in (refl, cc same, ap (λ x. x.memory) came)
 open_accepted (Some fault) f g m m' after came = let never = ap (λ x. x.answer) came in (cc never, cc never, cc never)
-
-pub open_refused : (met : Option BookFault) (f : MonthFigures) (fault : BookFault) (m m' after : Memory) → outcome_of (Err fault) m' ≡ outcome met f m after → (met ≡ Some fault) × (m' ≡ m)
-open_refused None f fault m m' after came = let never = ap (λ x. x.answer) came in (cc never, cc never)
-open_refused (Some other) f fault m m' after came = let same = ap (λ x. x.answer) came in (cc same, ap (λ x. x.memory) came)
 
 module _ (g : MonthFigures) (m : Memory) (faultless : open_fault g m ≡ None) where
   -- the book that was opened
@@ -139,17 +128,8 @@ module _ (g : MonthFigures) (m : Memory) (calls : List Call) (answers : List Ans
       subst (Holds o (after o requests)) (sym (ran.holds ∙ ap (λ f. memory_after f calls (emptied m)) (sym (same_figures g m ran.faultless))))
       (run_holds o opened_so nothing_stands (sound_none o) (emptied m) (holds_opened g m ran.faultless) calls)
 
-  pub ran_few : g.agents ≤ 64
-  ran_few = omega (arith, opened_so.few_agents, agents_long g m ran.faultless)
-
-  pub ran_days : g.days ≤ 31
-  ran_days = opened_so.few_days
-
-  pub ran_agents : length m.agents ≡ g.agents
+  ran_agents : length m.agents ≡ g.agents
   ran_agents = agents_long g m ran.faultless
-
-  pub ran_sized : sized g.agents (hours_of g.days) held ≡ true
-  ran_sized = ap (λ n. sized n (hours_of g.days) held) (sym ran_agents) ∙ (holds_fits o opened_so (after o requests) sound_so held holds_so).0
 
   pub ran_stored : stored_fits held ≡ true
   ran_stored = (holds_fits o opened_so (after o requests) sound_so held holds_so).1
@@ -160,7 +140,7 @@ module _ (g : MonthFigures) (m : Memory) (calls : List Call) (answers : List Ans
   -- ---- the statements
 
   module _ (statements : List Statement) (stated : statements ≡ map (λ i. statement_in (hours_of g.days) i held) (range_with_len 0 g.agents)) where
-    pub ran_long : length statements ≡ g.agents
+    ran_long : length statements ≡ g.agents
     ran_long = ap length stated ∙ length-map-range_with_len _ 0 g.agents
 
     worked_so : (i : ℕ) → i < count_in o → worked_in (statement_in (hours_of g.days) i held) ≡ worked o (after o requests) i

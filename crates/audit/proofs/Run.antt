@@ -49,23 +49,17 @@ module _ (o : Opening) (hour : ℕ) where
     | inr apart ↦ (λ t. cond (ne_eqb h hour apart t) (residue_from p) (residue_from (s.posted hour))) ∙ (λ t. residue_from (cond (sym (ne_eqb hour h (λ e. apart (sym e))) t) p (s.posted hour)))
   ]
 
-  -- an answer tells what is left as the residue of an hour
+  -- an answer tells what is left as the residue of an hour: a refusal leaves it, and otherwise the request decides
+  residue_by : (s : Standing) (r : Request) (fault : Option BookFault) →
+      cond (is_accepted (reply_to o s r None)) (residue_left hour (residue_from (s.posted hour)) r) (residue_from (s.posted hour)) ≡ residue_from ((changed r s).posted hour) →
+      cond (is_accepted (reply_to o s r fault)) (residue_left hour (residue_from (s.posted hour)) r) (residue_from (s.posted hour)) ≡ residue_from ((cond (is_some fault) s (changed r s)).posted hour)
+  residue_by s r None done = done
+  residue_by s r (Some fault) done = refl
+
   residue_next : (s : Standing) (r : Request) → cond (is_accepted (reply o s r)) (residue_left hour (residue_from (s.posted hour)) r) (residue_from (s.posted hour)) ≡ residue_from ((next o s r).posted hour)
-  residue_next s (posting h p) = met (fault_met o s (posting h p))
-    where
-      met : (fault : Option BookFault) → cond (is_accepted (reply_to o s (posting h p) fault)) (residue_left hour (residue_from (s.posted hour)) (posting h p)) (residue_from (s.posted hour)) ≡ residue_from ((cond (is_some fault) s (changed (posting h p) s)).posted hour)
-      met None = left_here s h (Some p)
-      met (Some fault) = refl
-  residue_next s (withdrawal h) = met (fault_met o s (withdrawal h))
-    where
-      met : (fault : Option BookFault) → cond (is_accepted (reply_to o s (withdrawal h) fault)) (residue_left hour (residue_from (s.posted hour)) (withdrawal h)) (residue_from (s.posted hour)) ≡ residue_from ((cond (is_some fault) s (changed (withdrawal h) s)).posted hour)
-      met None = left_here s h None
-      met (Some fault) = refl
-  residue_next s (statement agent) = met (fault_met o s (statement agent))
-    where
-      met : (fault : Option BookFault) → cond (is_accepted (reply_to o s (statement agent) fault)) (residue_from (s.posted hour)) (residue_from (s.posted hour)) ≡ residue_from ((cond (is_some fault) s s).posted hour)
-      met None = refl
-      met (Some fault) = refl
+  residue_next s (posting h p) = residue_by s (posting h p) (fault_met o s (posting h p)) (left_here s h (Some p))
+  residue_next s (withdrawal h) = residue_by s (withdrawal h) (fault_met o s (withdrawal h)) (left_here s h None)
+  residue_next s (statement agent) = residue_by s (statement agent) (fault_met o s (statement agent)) refl
 
   -- and so the answers tell the residue of what stands
   pub run_residue : (s : Standing) (requests : List Request) → residue_told hour (residue_from (s.posted hour)) requests (replies_from o s requests) ≡ residue_from ((standing_after o s requests).posted hour)

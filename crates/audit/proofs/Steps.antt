@@ -109,17 +109,14 @@ module _ (o : Opening) (opened : Opened o) (s : Standing) (sound : Sound o s) (m
 
   -- ---- any call
 
+  -- a request that gives nothing back is told that it was done, or its fault
+  done_told : (r : Request) → reply_to o s r None ≡ Reply.accepted → (fault : Option BookFault) → reply_of (done_as (answer_of tt fault)) ≡ reply_to o s r fault
+  done_told r done None = sym done
+  done_told r done (Some fault) = refl
+
   pub heard_reply : (c : Call) → reply_of (heard (figures_in o) c m).answer ≡ reply o s (request_of c)
-  heard_reply (Post p) = ap (λ answer. reply_of (done_as answer)) (post_step p.hour _).0 ∙ post_told (fault_met o s (request_of (Post p)))
-    where
-      post_told : (fault : Option BookFault) → reply_of (done_as (answer_of tt fault)) ≡ reply_to o s (request_of (Post p)) fault
-      post_told None = refl
-      post_told (Some fault) = refl
-  heard_reply (Withdraw hour) = ap (λ answer. reply_of (done_as answer)) (withdraw_step hour).0 ∙ withdraw_told (fault_met o s (withdrawal hour))
-    where
-      withdraw_told : (fault : Option BookFault) → reply_of (done_as (answer_of tt fault)) ≡ reply_to o s (withdrawal hour) fault
-      withdraw_told None = refl
-      withdraw_told (Some fault) = refl
+  heard_reply (Post p) = ap (λ answer. reply_of (done_as answer)) (post_step p.hour _).0 ∙ done_told (request_of (Post p)) refl (fault_met o s (request_of (Post p)))
+  heard_reply (Withdraw hour) = ap (λ answer. reply_of (done_as answer)) (withdraw_step hour).0 ∙ done_told (withdrawal hour) refl (fault_met o s (withdrawal hour))
   heard_reply (Provisional agent) = state_step agent
 
   pub heard_holds : (c : Call) → Holds o (next o s (request_of c)) (heard (figures_in o) c m).memory

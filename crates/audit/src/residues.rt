@@ -17,6 +17,7 @@ fn posting_residue(price: u32, lines: &[Line]) -> i64
     ensures value { result ≡ residue_of price lines.now }
     ensures bound { unsigned_abs result ≤ 7680000000000 }
 {
+    // Kept: two sums in one pass; two chains are no shorter, and each asks `amount`'s limits again.
     let mut withdrawn = 0;
     let mut injected = 0;
     for line in lines {
@@ -64,6 +65,7 @@ pub(crate) fn standing_residue(hours: u32, calls: &[Call], answers: &[Answer]) -
     requires measured { AllMeasured (map request_of calls.now) (map reply_of answers.now) }
     ensures { result ≡ sum_to_ℤ hours (λ hour. residue_told hour (pos 0) (map request_of calls.now) (map reply_of answers.now)) }
 {
+    // Kept: of a chain's `sum` of signed numbers the library has no bound, so its proof didn't close.
     let mut sum = 0;
     for hour in 0..hours {
         sum += hour_residue(hour, calls, answers);

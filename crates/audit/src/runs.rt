@@ -53,7 +53,7 @@ pub(crate) fn replay(
     ensures told { answers.new ≡ answers_to (figures_of month.now) calls.now (memory_in pool.now ledger.old) }
     ensures holds { memory_in pool.now ledger.new ≡ memory_after (figures_of month.now) calls.now (memory_in pool.now ledger.old) }
 {
-    // Kept by index: of what a zipped `iter_mut` lends, a proof knows nothing afterwards.
+    // Kept: a zip with `answers.iter_mut()` was tried, and a proof then knows nothing of the answers.
     for (i, call) in calls.iter().enumerate() {
         answers[i] = answer(month, call, pool, ledger);
     }

@@ -32,6 +32,7 @@ pub(crate) fn balances_together(statements: &[Statement]) -> i64
     requires small { (i : ℕ) → i < length statements.now → unsigned_abs (balance_at statements.now i) ≤ 10000000000000000 }
     ensures { result ≡ sum_to_ℤ (length statements.now) (balance_at statements.now) }
 {
+    // Kept: of a chain's `sum` of signed numbers the library has no bound, so its proof didn't close.
     let mut sum = 0;
     for statement in statements {
         sum += statement.balance;

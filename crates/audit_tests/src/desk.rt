@@ -90,30 +90,34 @@ fn calls_of(heap: Global, steps: &[Step]) -> Result<Vec<Call>, AllocError> {
     Ok(calls)
 }
 
-fn told_of(answer: &Answer) -> Told {
-    match answer {
-        Ok(Done::Accepted) => DONE,
-        Ok(Done::Stated(statement)) => Told {
-            balance: statement.balance,
-            ..DONE
-        },
-        Err(fault) => Told {
-            number: fault.number(),
-            place: fault.place(),
-            balance: 0,
-        },
+impl From<Answer> for Told {
+    fn from(answer: Answer) -> Told {
+        match answer {
+            Ok(Done::Accepted) => DONE,
+            Ok(Done::Stated(statement)) => Told {
+                balance: statement.balance,
+                ..DONE
+            },
+            Err(fault) => Told {
+                number: fault.number(),
+                place: fault.place(),
+                balance: 0,
+            },
+        }
     }
 }
 
-fn row_of(statement: &Statement) -> Row {
-    Row {
-        market: statement.lines.market,
-        overcost: statement.lines.overcost,
-        balance: statement.balance,
-        injected: statement.energy.injected,
-        withdrawn: statement.energy.withdrawn,
-        peak: statement.peak.kwh,
-        peak_hour: statement.peak.hour,
+impl From<Statement> for Row {
+    fn from(statement: Statement) -> Row {
+        Row {
+            market: statement.lines.market,
+            overcost: statement.lines.overcost,
+            balance: statement.balance,
+            injected: statement.energy.injected,
+            withdrawn: statement.energy.withdrawn,
+            peak: statement.peak.kwh,
+            peak_hour: statement.peak.hour,
+        }
     }
 }
 
@@ -154,21 +158,14 @@ fn settle(
 fn came_to(settled: Result<Totals, BookFault>, statements: &[Statement; 3]) -> Outcome {
     let (fault, balances, residue) = match settled {
         Ok(totals) => (DONE, totals.balances, totals.residue),
-        Err(fault) => (told_of(&Err(fault)), 0, 0),
+        Err(fault) => (Told::from(Err(fault)), 0, 0),
     };
     Outcome {
         fault,
         balances,
         residue,
-        generator: row_of(&statements[0]),
-        distributor: row_of(&statements[1]),
-    }
-}
-
-/// Writes what each call was answered to its place.
-fn fill_told(answers: &[Answer; 8], told: &mut [Told; 8]) {
-    for (i, answer) in answers.iter().enumerate() {
-        told[i] = told_of(answer);
+        generator: Row::from(statements[0]),
+        distributor: Row::from(statements[1]),
     }
 }
 
@@ -194,6 +191,6 @@ pub(crate) fn audited(
         &mut answers[0..setting.answers.min(8)],
         &mut statements[0..setting.statements.min(3)],
     );
-    fill_told(&answers, told);
+    *told = answers.map(Told::from);
     Ok(came_to(result, &statements))
 }
