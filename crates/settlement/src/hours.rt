@@ -174,7 +174,7 @@ fn entry(price: u32, line: &Line, caused: u64, carried: u64) -> Entry
 }
 
 /// Writes the entry of each agent, contracts aside, to its place; the parts are scratch memory.
-pub(crate) fn fill_entries(
+pub fn fill_entries(
     agents: &[Agent],
     price: u32,
     lines: &[Line],

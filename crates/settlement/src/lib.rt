@@ -15,8 +15,8 @@ mod terms;
 
 pub use agents::Agent;
 pub use faults::{BookFault, LineFault};
-pub use holdings::Entry;
-pub use hours::check_carriers;
+pub use holdings::{Account, Entry};
+pub use hours::{check_carriers, fill_entries};
 pub use legs::fill_hour;
 pub use lines::Line;
 pub use postings::{check_hour, check_posting};
