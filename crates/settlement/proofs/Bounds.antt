@@ -1,6 +1,7 @@
 -- How large the excess of an hour is at most. Assumes nothing.
-use Rattle.std.proofs.Common.{◌≡◌, ℕ, ◌+◌, ◌<◌, ◌≤◌, Bool, true, false, cond, ◌&&◌, eqb, leb, List, length, Some, None, Option, arith}
+use Rattle.std.proofs.Common.{◌≡◌, ℕ, ◌+◌, ◌<◌, ◌≤◌, Bool, true, false, cond, ◌&&◌, eqb, leb, List, length, get_or, Some, None, Option, ap, ◌∙◌, arith}
 use Rattle.std.proofs.lemmas.List.FromFn.{length-map-range_with_len}
+use Rattle.std.proofs.lemmas.List.{get_or_default}
 use Rattle.std.proofs.lemmas.Bool.{and_parts, leb-true}
 use Rattle.valuation.proofs.Amounts.{excess_of_le}
 use Rattle.valuation.proofs.Sharing.{part_of_le}
@@ -9,7 +10,7 @@ use Rattle.settlement.specs.declared.lines.Class.{Class}
 use Rattle.settlement.specs.declared.lines.Class.TheVariants.{Normal, Obligated, Forced}
 use Rattle.settlement.specs.declared.lines.Line.{Line}
 use Rattle.settlement.specs.Hour.{line_at, excess_in, excess_on, is_obligated, is_forced, obligated_on, obligated_sum, caused_on, caused_sum, weight_at, weights_of, carried_by}
-use Rattle.settlement.specs.Lines.{class_of, line_within}
+use Rattle.settlement.specs.Lines.{class_of, line_within, no_line}
 use Rattle.settlement.specs.PostingFaults.{Measured}
 use Rattle.settlement.proofs.Sums.{sum_to_le}
 
@@ -54,6 +55,10 @@ module _ (price : ℕ) (l : Line) (within : Within l) where
   if_excess_le false = omega arith
 
 module _ (price : ℕ) (lines : List Line) (sane : Measured price lines) where
+  -- the line that an iterator hands out
+  pub item_within : (j : ℕ) (l : Line) → j < length lines → l ≡ get_or lines j l → line_within l ≡ true
+  item_within j l below is = ap line_within (is ∙ get_or_default lines j l no_line below) ∙ sane.each_within j below
+
   line_within_lem : (j : ℕ) → j < length lines → Within (line_at lines j)
   line_within_lem j below = within_limits (line_at lines j) (sane.each_within j below)
 

@@ -1,9 +1,10 @@
 -- Checks that go through a list: what is left of it gives the answer. Assumes nothing.
-use Rattle.std.proofs.Common.{◌≡◌, ℕ, zero, suc, ◌+◌, ◌-◌, ◌<◌, ◌≤◌, Bool, true, false, cond, ◌&&◌, List, [], ◌∷◌, length, get_or, drop, Some, None, ap, ◌∙◌, le_of_suc-le-suc, not-suc-le-zero, arith}
+use Rattle.std.proofs.Common.{◌≡◌, ℕ, zero, suc, ◌+◌, ◌<◌, ◌≤◌, Bool, true, false, not, cond, ◌&&◌, List, [], ◌∷◌, length, get_or, drop, Some, Option, position, refl, ap, ◌∙◌, le_of_suc-le-suc, not-suc-le-zero, arith}
+use Rattle.std.specs.List.{list_all, position_from}
+use Rattle.std.proofs.lemmas.Iterator.Adapters.{position_from-zero}
 use Rattle.std.proofs.lemmas.List.{at_drop_more, at_drop_all}
 use Rattle.std.proofs.lemmas.Bool.{and_parts}
-use Rattle.settlement.specs.Sums.{all_of}
-use Rattle.settlement.specs.Sums.{first_failing}
+use Rattle.settlement.specs.Sums.{all_of, first_failing}
 
 module _ {X : Type 0} (test : X → Bool) (xs : List X) (i : ℕ) where
   -- the item at i passes, so that the rest tells
@@ -24,20 +25,29 @@ all_each test [] i d all within = absurd (not-suc-le-zero within)
 all_each test (x ∷ xs) zero d all within = (and_parts (test x) (all_of test xs) all).0
 all_each test (x ∷ xs) (suc i) d all within = all_each test xs i d (and_parts (test x) (all_of test xs) all).1 (le_of_suc-le-suc within)
 
--- of the places from i on, up to n
-module _ (test : ℕ → Bool) (i n : ℕ) where
-  -- the place i passes, so that the rest tells
-  pub first_more : i < n → test i ≡ true → first_failing test i (n - i) ≡ first_failing test (i + 1) (n - (i + 1))
-  first_more within passes =
-      let left : n - i ≡ suc (n - (i + 1)) = omega arith in
-      ap (first_failing test i) left ∙ ap (λ b. cond b (first_failing test (i + 1) (n - (i + 1))) (Some i)) passes
+-- the items of a list that pass a test, all of them, by the library's word
+pub all_is : {X : Type 0} (test : X → Bool) (xs : List X) → list_all test xs ≡ all_of test xs
+all_is test [] = refl
+all_is test (x ∷ xs) = ap (λ b. test x && b) (all_is test xs)
 
-  -- the place i is the first that fails
-  pub first_here : i < n → test i ≡ false → first_failing test i (n - i) ≡ Some i
-  first_here within fails =
-      let left : n - i ≡ suc (n - (i + 1)) = omega arith in
-      ap (first_failing test i) left ∙ ap (λ b. cond b (first_failing test (i + 1) (n - (i + 1))) (Some i)) fails
+-- the first place whose item fails, where each place has a test of its own
+pub first_from : {X : Type 0} (fails : X → Bool) (test : ℕ → Bool) (start : ℕ) (xs : List X) (d : X) →
+    ((i : ℕ) → i < length xs → fails (get_or xs i d) ≡ not (test (start + i))) → position_from fails start xs ≡ first_failing test start (length xs)
+first_from fails test start [] d each = refl
+first_from fails test start (x ∷ xs) d each =
+    let here : fails x ≡ not (test start) = each 0 (omega arith) ∙ ap (λ i. not (test i)) (omega arith) in
+    let rest : position_from fails (start + 1) xs ≡ first_failing test (start + 1) (length xs) =
+    first_from fails test (start + 1) xs d (λ i within. each (suc i) (omega arith) ∙ ap (λ j. not (test j)) (omega arith)) in
+    ap (λ b. cond b (Some start) (position_from fails (start + 1) xs)) here
+    ∙ not_cond (test start) (Some start) (position_from fails (start + 1) xs)
+    ∙ ap (λ o. cond (test start) o (Some start)) rest
+  where
+    not_cond : (test : Bool) (a b : Option ℕ) → cond (not test) a b ≡ cond test b a
+    not_cond true a b = refl
+    not_cond false a b = refl
 
-  -- no place is left
-  pub first_none : n ≤ i → first_failing test i (n - i) ≡ None
-  first_none past = let left : n - i ≡ 0 = omega arith in ap (first_failing test i) left
+-- what `position` answers is that place
+pub first_is : {X : Type 0} (fails : X → Bool) (test : ℕ → Bool) (xs : List X) (d : X) →
+    ((i : ℕ) → i < length xs → fails (get_or xs i d) ≡ not (test i)) → position fails xs ≡ first_failing test 0 (length xs)
+first_is fails test xs d each =
+    position_from-zero fails xs ∙ first_from fails test 0 xs d (λ i within. each i within ∙ ap (λ j. not (test j)) (omega arith))

@@ -1,11 +1,12 @@
 -- Sums f 0 + … + f (n − 1): one more, equal ones, one changed, bounds, sums of sums. Assumes nothing.
 use Rattle.std.proofs.Common.{◌≡◌, ℕ, zero, suc, ◌+◌, ◌*◌, ◌^◌, ◌<◌, ◌≤◌, List, map, length, get_or, take, ℤ, pos, negsuc, ◌+ℤ◌, ◌-ℤ◌, neg_ℤ, nat_abs, sum_by, sum, sym, refl, ap, ◌∙◌, inl, inr, suc-mul, add-one, arith, w64, SFits}
 use lib.Signed.{mag}
-use Rattle.std.specs.List.{range_with_len}
+use Rattle.std.specs.List.{range_with_len, zip}
 use Rattle.std.proofs.lemmas.List.FromFn.{fill_by_all, length-map-range_with_len, get_or-map-range_with_len, sum_by-map-range_with_len_more}
 use Rattle.std.proofs.lemmas.List.{take_all}
 use Rattle.std.proofs.lemmas.Int.{ints}
 use Rattle.std.proofs.lemmas.List.Sums.{sum_by_more}
+use Rattle.std.proofs.lemmas.Slice.Zip.{length-zip, get_or-zip}
 use Rattle.std.proofs.lemmas.Bool.{cases_eq}
 use Rattle.settlement.specs.Sums.{sum_to, sum_to_ℤ}
 
@@ -122,6 +123,14 @@ sum_by_front g xs d (suc n) within =
 
 pub sum_by_list : {X : Type 0} (g : X → ℕ) (xs : List X) (d : X) → sum_by g xs ≡ sum_to (length xs) (λ k. g (get_or xs k d))
 sum_by_list g xs d = sym (ap (sum_by g) (take_all (length xs) xs (omega arith))) ∙ sum_by_front g xs d (length xs) (omega arith)
+
+-- of two lists of one length, item by item
+pub sum_by_zip : {X Y : Type 0} (g : X × Y → ℕ) (xs : List X) (ys : List Y) (d : X) (e : Y) → length ys ≡ length xs →
+    sum_by g (zip xs ys) ≡ sum_to (length xs) (λ k. g (get_or xs k d, get_or ys k e))
+sum_by_zip g xs ys d e long =
+    sum_by_list g (zip xs ys) (d, e)
+    ∙ ap (λ n. sum_to n (λ k. g (get_or (zip xs ys) k (d, e)))) (length-zip xs ys ∙ omega arith)
+    ∙ sum_to_same (length xs) _ _ (λ k below. ap g (get_or-zip xs ys k (d, e) below (omega arith)))
 
 pub sum_counting : (f : ℕ → ℕ) (n : ℕ) → sum (map f (range_with_len 0 n)) ≡ sum_to n f
 sum_counting f zero = refl

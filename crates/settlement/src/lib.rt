@@ -4,6 +4,7 @@
 #![tactic(auto)]
 
 mod agents;
+mod carrying;
 mod faults;
 mod holdings;
 mod hours;
@@ -11,14 +12,13 @@ mod legs;
 mod lines;
 mod postings;
 mod power;
+mod priced;
 mod terms;
 
 pub use agents::Agent;
 pub use faults::{BookFault, LineFault};
 pub use holdings::{Account, Entry};
-pub use hours::{check_carriers, fill_entries};
-pub use legs::fill_hour;
 pub use lines::Line;
-pub use postings::{check_hour, check_posting};
+pub use postings::{MeasuredPosting, check_hour, check_posting};
 pub use power::{charge_power, check_power};
 pub use terms::{does_cover, may_all_stand, may_stand};

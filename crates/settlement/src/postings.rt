@@ -1,6 +1,7 @@
-//! What is wrong with a posting's own figures.
+//! Postings whose own figures are in order, and what is wrong with those of others.
 ghost use Rattle.std.specs.Prelude.{◌≡◌, ◌*◌, ◌≤◌, length, IfOk, OnOk};
 ghost use Rattle.std.specs.Result.{result_err};
+ghost use Rattle.std.proofs.Props.{props};
 ghost use Rattle.settlement.specs.PostingFaults.{hour_fault, head_fault, limit_fault, rule_fault, together_fault, line_fault, injected_together, withdrawn_together, Measured};
 
 use crate::agents::Agent;
@@ -8,6 +9,18 @@ use crate::faults::LineFault;
 use crate::lines::Line;
 use calendar::HourStamp;
 use valuation::{MOST_ENERGY, MOST_PRICE};
+
+/// A posting of an hour, with the agents of its book: one line for each agent, and the price, each line and all lines together within their
+/// limits.
+#[derive(Clone, Copy)]
+pub struct MeasuredPosting<'a> {
+    pub stamp: HourStamp,
+    pub price: u32,
+    pub lines: &'a [Line],
+    pub agents: &'a [Agent],
+    pub ghost measured: { Measured price lines.now } by { Prim.hlevel props },
+    pub ghost agents_long: { length agents.now ≡ length lines.now },
+}
 
 /// The stamp of an hour of the month, or a refusal where it lies outside.
 pub fn check_hour(days: u32, hour: u32) -> Result<HourStamp, LineFault>
@@ -36,12 +49,10 @@ fn check_limits(lines: &[Line]) -> Result<(), LineFault>
     requires { length lines.now ≤ 64 }
     ensures { result_err result ≡ limit_fault lines.now }
 {
-    for (i, line) in lines.iter().enumerate() {
-        if !line.is_within_limits() {
-            return Err(LineFault::OutsideLimit(i as u32 + 1));
-        }
+    match lines.iter().position(|line| !line.is_within_limits()) {
+        Some(i) => Err(LineFault::OutsideLimit(i as u32 + 1)),
+        None => Ok(()),
     }
-    Ok(())
 }
 
 /// Refuses a line that breaks the rule of its class.
@@ -50,12 +61,11 @@ fn check_rules(count: u32, agents: &[Agent], lines: &[Line]) -> Result<(), LineF
     requires each_has_one { length lines.now ≡ length agents.now }
     ensures { result_err result ≡ rule_fault count agents.now lines.now }
 {
-    for (i, line) in lines.iter().enumerate() {
-        if !line.keeps_its_class(count, agents[i].known_role()) {
-            return Err(LineFault::BreaksRule(i as u32 + 1));
-        }
+    let mut each = lines.iter().zip(agents);
+    match each.position(|(line, agent)| !line.keeps_its_class(count, agent.known_role())) {
+        Some(i) => Err(LineFault::BreaksRule(i as u32 + 1)),
+        None => Ok(()),
     }
-    Ok(())
 }
 
 /// All injected and all withdrawn energy of the lines.
@@ -85,20 +95,21 @@ fn check_together(lines: &[Line]) -> Result<(), LineFault>
     Ok(())
 }
 
-/// The stamp of a posting's hour, or the first fault of its own figures, in a month of `days` days for `count` agents.
-pub fn check_posting(
+/// A posting whose own figures are in order, or the first fault of them, in a month of `days` days for `count` agents.
+pub fn check_posting<'a>(
     count: u32,
     days: u32,
     hour: u32,
     price: u32,
-    lines: &[Line],
-    agents: &[Agent],
-) -> Result<HourStamp, LineFault>
+    lines: &'a [Line],
+    agents: &'a [Agent],
+) -> Result<MeasuredPosting<'a>, LineFault>
     requires few_agents { count ≤ 64 }
     requires few_days { days ≤ 31 }
     requires agents_long { length agents.now ≡ count }
     ensures fault { result_err result ≡ line_fault count (24 * days) agents.now hour price lines.now }
-    ensures stamp { IfOk result (λ s. (s.hour ≡ hour) × (s.days ≡ days)) }
+    ensures stamp { IfOk result (λ p. (p.stamp.hour ≡ hour) × (p.stamp.days ≡ days)) }
+    ensures figures { IfOk result (λ p. (p.price ≡ price) × (p.lines.now ≡ lines.now) × (p.agents.now ≡ agents.now)) }
     ensures long { OnOk result (length lines.now ≡ count) }
     ensures measured { OnOk result (Measured price lines.now) }
 {
@@ -107,5 +118,10 @@ pub fn check_posting(
     check_limits(lines)?;
     check_rules(count, agents, lines)?;
     check_together(lines)?;
-    Ok(stamp)
+    Ok(MeasuredPosting {
+        stamp,
+        price,
+        lines,
+        agents,
+    })
 }

@@ -80,12 +80,9 @@ pub fn may_all_stand<F: ContractForm>(
 ) -> bool
     ensures { result ≡ all_of (place_fits (F.meaning form.now) hours agents.now) contracts.now }
 {
-    for place in contracts {
-        if !is_place_fit(form, hours, agents, place) {
-            return false;
-        }
-    }
-    true
+    contracts
+        .iter()
+        .all(|place| is_place_fit(form, hours, agents, place))
 }
 
 /// Whether a contract covers an hour.

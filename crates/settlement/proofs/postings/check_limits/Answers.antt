@@ -1,18 +1,30 @@
-use Rattle.std.proofs.Common.{◌+◌, length, sym, ap, ◌∙◌}
+use Rattle.std.proofs.Common.{◌≡◌, ◌+◌, not, List, length, position, sym, ap, ◌∙◌, refl, rules}
+use borrow.Author.Tests.{tests}
 use Rattle.std.specs.Option.{option_map}
+use Rattle.std.proofs.lemmas.Iterator.{YieldsList-from_slice}
+use Rattle.std.proofs.lemmas.Iterator.Search.{position_from_yields_List}
 use Rattle.settlement.specs.declared.faults.LineFault.TheVariants.{OutsideLimit}
+use Rattle.settlement.specs.declared.lines.Line.{Line}
 use Rattle.settlement.specs.Hour.{line_at}
-use Rattle.settlement.specs.Lines.{line_within}
-use Rattle.settlement.proofs.Checks.{first_more, first_here}
+use Rattle.settlement.specs.Lines.{line_within, no_line}
+use Rattle.settlement.specs.Sums.{first_failing}
+use Rattle.settlement.proofs.Checks.{first_is}
 use Rattle.settlement.proofs.postings.check_limits.Goals as goal
 
-pub returns-then-not-is_within_limits : goal.returns-then-not-is_within_limits
-returns-then-not-is_within_limits c =
-    ap (option_map (λ i. OutsideLimit (i + 1)))
-    (sym (first_here (λ i. line_within (line_at c.args.lines.now i)) c.loop-i.i (length c.args.lines.now) c.loop-i-test.true (sym c.if-not-is_within_limits.ensures))
-    ∙ c.loop-i.invariant)
+-- the first line with a figure outside its limit, by its place
+first_outside : (lines : List Line) → position (λ (l : Line). not (line_within l)) lines ≡ first_failing (λ i. line_within (line_at lines i)) 0 (length lines)
+first_outside lines = first_is (λ (l : Line). not (line_within l)) (λ i. line_within (line_at lines i)) lines no_line (λ i within. refl)
 
-pub loop-i-preserved : goal.loop-i-preserved
-loop-i-preserved c =
-    sym (first_more (λ i. line_within (line_at c.args.lines.now i)) c.loop-i.i (length c.args.lines.now) c.loop-i-test.true (sym c.if-not-is_within_limits.ensures))
-    ∙ c.loop-i.invariant
+pub returns-in-Some : goal.returns-in-Some
+returns-in-Some c =
+    let lines = c.args.lines.now in
+    let found : c.position.result ≡ position (λ (l : Line). not (line_within l)) lines =
+    position_from_yields_List (λ (l : Line). not (line_within l)) _ _ c.position.result c.position.ensures.ran (YieldsList-from_slice lines cc) (λ x b q k. search (rules, tests)) in
+    ap (option_map (λ i. OutsideLimit (i + 1))) (sym c.in-Some.is ∙ found ∙ first_outside lines)
+
+pub returns-in-None : goal.returns-in-None
+returns-in-None c =
+    let lines = c.args.lines.now in
+    let found : c.position.result ≡ position (λ (l : Line). not (line_within l)) lines =
+    position_from_yields_List (λ (l : Line). not (line_within l)) _ _ c.position.result c.position.ensures.ran (YieldsList-from_slice lines cc) (λ x b q k. search (rules, tests)) in
+    ap (option_map (λ i. OutsideLimit (i + 1))) (sym c.in-None.is ∙ found ∙ first_outside lines)

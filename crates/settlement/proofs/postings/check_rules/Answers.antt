@@ -1,20 +1,46 @@
-use Rattle.std.proofs.Common.{ℕ, ◌+◌, Bool, length, sym, ap, ◌∙◌}
+use Rattle.std.proofs.Common.{◌≡◌, ℕ, ◌+◌, Bool, not, List, length, position, sym, ap, ◌∙◌, arith, rules}
+use borrow.Author.Tests.{tests}
+use Rattle.std.specs.List.{zip}
 use Rattle.std.specs.Option.{option_map}
+use Rattle.std.proofs.lemmas.Iterator.{YieldsList-from_slice, YieldsList-from_zip}
+use Rattle.std.proofs.lemmas.Iterator.Search.{position_from_yields_List}
+use Rattle.std.proofs.lemmas.Slice.Zip.{length-zip, get_or-zip}
+use Rattle.settlement.specs.declared.agents.Agent.{Agent}
 use Rattle.settlement.specs.declared.faults.LineFault.TheVariants.{BreaksRule}
+use Rattle.settlement.specs.declared.lines.Line.{Line}
+use Rattle.settlement.specs.Agents.{role_of, no_agent}
 use Rattle.settlement.specs.Hour.{line_at, role_at}
-use Rattle.settlement.specs.Lines.{line_kept}
-use Rattle.settlement.proofs.Checks.{first_more, first_here}
+use Rattle.settlement.specs.Lines.{line_kept, no_line}
+use Rattle.settlement.specs.Sums.{first_failing}
+use Rattle.settlement.proofs.Checks.{first_is}
 use Rattle.settlement.proofs.postings.check_rules.Goals as goal
 
-pub returns-then-not-keeps_its_class : goal.returns-then-not-keeps_its_class
-returns-then-not-keeps_its_class c =
-    let kept : ℕ → Bool = λ i. line_kept c.args.count (role_at c.args.agents.now i) (line_at c.args.lines.now i) in
-    let role = ap (λ r. line_kept c.args.count r (line_at c.args.lines.now c.loop-i.i)) c.known_role.ensures in
-    ap (option_map (λ i. BreaksRule (i + 1)))
-    (sym (first_here kept c.loop-i.i (length c.args.lines.now) c.loop-i-test.true (sym (c.if-not-keeps_its_class.ensures ∙ role))) ∙ c.loop-i.invariant)
+-- a line of an agent that breaks the rule of its class
+abbrev broken : ℕ → Line × Agent → Bool
+broken count p = not (line_kept count (role_of p.1.role) p.0)
 
-pub loop-i-preserved : goal.loop-i-preserved
-loop-i-preserved c =
-    let kept : ℕ → Bool = λ i. line_kept c.args.count (role_at c.args.agents.now i) (line_at c.args.lines.now i) in
-    let role = ap (λ r. line_kept c.args.count r (line_at c.args.lines.now c.loop-i.i)) c.known_role.ensures in
-    sym (first_more kept c.loop-i.i (length c.args.lines.now) c.loop-i-test.true (sym (c.if-not-keeps_its_class.ensures ∙ role))) ∙ c.loop-i.invariant
+-- the first of them, by its place
+first_broken : (count : ℕ) (agents : List Agent) (lines : List Line) → length lines ≡ length agents →
+    position (broken count) (zip lines agents) ≡ first_failing (λ i. line_kept count (role_at agents i) (line_at lines i)) 0 (length lines)
+first_broken count agents lines long =
+    let pairs : length (zip lines agents) ≡ length lines = length-zip lines agents ∙ omega arith in
+    let test : ℕ → Bool = λ i. line_kept count (role_at agents i) (line_at lines i) in
+    first_is (broken count) test (zip lines agents) (no_line, no_agent)
+    (λ i within. ap (broken count) (get_or-zip lines agents i (no_line, no_agent) (omega arith) (omega arith)))
+    ∙ ap (first_failing test 0) pairs
+
+pub returns-in-Some : goal.returns-in-Some
+returns-in-Some c =
+    let lines = c.args.lines.now in
+    let agents = c.args.agents.now in
+    let found : c.position.result ≡ position (broken c.args.count) (zip lines agents) =
+    position_from_yields_List (broken c.args.count) c.position.new.self _ c.position.result c.position.ensures.ran (YieldsList-from_zip (YieldsList-from_slice lines cc) (YieldsList-from_slice agents cc)) (λ x b q k. search (rules, tests)) in
+    ap (option_map (λ i. BreaksRule (i + 1))) (sym c.in-Some.is ∙ found ∙ first_broken c.args.count agents lines c.requires.each_has_one)
+
+pub returns-in-None : goal.returns-in-None
+returns-in-None c =
+    let lines = c.args.lines.now in
+    let agents = c.args.agents.now in
+    let found : c.position.result ≡ position (broken c.args.count) (zip lines agents) =
+    position_from_yields_List (broken c.args.count) c.position.new.self _ c.position.result c.position.ensures.ran (YieldsList-from_zip (YieldsList-from_slice lines cc) (YieldsList-from_slice agents cc)) (λ x b q k. search (rules, tests)) in
+    ap (option_map (λ i. BreaksRule (i + 1))) (sym c.in-None.is ∙ found ∙ first_broken c.args.count agents lines c.requires.each_has_one)

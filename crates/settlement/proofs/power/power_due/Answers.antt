@@ -1,10 +1,29 @@
-use Rattle.std.proofs.Common.{arith}
-use Rattle.settlement.specs.Power.{power_credit}
-use Rattle.settlement.proofs.Sums.{sum_to_more}
+use Rattle.std.proofs.Common.{◌≡◌, ℕ, ◌*◌, length, get_or, sum_by, min, ◌∙◌, arith, rules}
+use Rattle.std.proofs.lemmas.Iterator.{YieldsList-from_slice, YieldsList-from_map}
+use Rattle.std.proofs.lemmas.Iterator.Consumers.{sum_by_from_yields_List}
+use Rattle.settlement.specs.declared.agents.Agent.{Agent}
+use Rattle.settlement.specs.Agents.{no_agent}
+use Rattle.settlement.proofs.Sums.{sum_by_list, sum_to_le}
 use Rattle.settlement.proofs.power.power_due.Goals as goal
 
-pub loop-agent-preserved : goal.loop-agent-preserved
-loop-agent-preserved c = (
-  omega (arith, sum_to_more c.loop-agent.agent-index (power_credit c.args.agents.now), c.power_credit-sum.ensures.value, c.loop-agent.invariant.0),
-  omega (arith, c.power_credit-sum.ensures.bound, c.loop-agent.invariant.1),
-)
+-- a credit, which is at most that of the highest power that a figure can be
+abbrev credit : Agent → ℕ
+credit a = min (57000 * a.power) 244813135815000
+
+pub returns-clause-value : goal.returns-clause-value
+returns-clause-value c =
+    let sum : c.sum.result ≡ sum_by (λ (a : Agent). 57000 * a.power) c.args.agents.now = search rules in
+    sum ∙ sum_by_list (λ (a : Agent). 57000 * a.power) c.args.agents.now no_agent
+
+pub returns-clause-bound : goal.returns-clause-bound
+returns-clause-bound c =
+    let agents = c.args.agents.now in
+    let sum : c.sum.result ≡ sum_by credit agents =
+    sum_by_from_yields_List credit agents c.map.result c.sum.result c.sum.ensures.ran
+    (YieldsList-from_map _ credit (YieldsList-from_slice agents cc) c.map.ensures.closure (λ x r q k. search rules)) in
+    omega (
+      arith,
+      sum ∙ sum_by_list credit agents no_agent,
+      sum_to_le (length agents) (λ i. credit (get_or agents i no_agent)) 244813135815000 (λ i below. omega arith),
+      c.requires.few,
+    )

@@ -1,0 +1,92 @@
+//! Points that are carried over withdrawn energy, by distributors and large consumers alone.
+ghost use Rattle.std.specs.Prelude.{◌≡◌, ℕ, ◌<◌, ◌≤◌, ◌^◌, ◌&&◌, ◌==◌, map, length, nat_lt, sum};
+ghost use Rattle.std.specs.List.{range_with_len};
+ghost use Rattle.valuation.specs.Sharing.{parts_of};
+
+use valuation::share;
+
+/// Points to be carried by agents, each by its weight.
+pub(crate) trait Carried {
+    /// How many agents there are.
+    ghost agents: { Self → ℕ };
+
+    /// The weight of the agent at a place.
+    ghost weight: { Self → ℕ → ℕ };
+
+    /// The points.
+    ghost points: { Self → ℕ };
+
+    /// How many agents there are.
+    fn agents(&self) -> usize
+        ensures value { result ≡ agents self.now }
+        ensures few { result ≤ 64 };
+
+    /// The weight of the agent at a place.
+    fn weight(&self, index: usize) -> u32
+        requires { index < agents self.now }
+        ensures { result ≡ weight self.now index };
+
+    /// The points.
+    fn points(&self) -> u64
+        ensures value { result ≡ points self.now }
+        ensures bound { result ≤ 1000000000000000000 };
+}
+
+/// Writes the weight of each agent to its place.
+fn fill_weights<C: Carried>(carried: &C, weights: &mut [u32])
+    requires { length weights.old ≡ C.agents carried.now }
+    ensures { weights.new ≡ map (C.weight carried.now) (range_with_len 0 (C.agents carried.now)) }
+{
+    for i in 0..weights.len() {
+        weights[i] = carried.weight(i);
+    }
+}
+
+/// All weights together.
+fn together(weights: &[u32]) -> u64
+    requires { length weights.now ≤ 64 }
+    ensures { result ≡ sum weights.now }
+{
+    weights.iter().map(|weight| u64::from(*weight)).sum()
+}
+
+/// Whether there are points, and no weight carries them; the weights are scratch memory.
+fn is_uncarried_by<C: Carried>(carried: &C, weights: &mut [u32]) -> bool
+    requires long { length weights.old ≡ C.agents carried.now }
+    requires few { length weights.old ≤ 64 }
+    ensures { result ≡ (nat_lt 0 (C.points carried.now) && sum (map (C.weight carried.now) (range_with_len 0 (C.agents carried.now))) == 0) }
+{
+    fill_weights(carried, weights);
+    carried.points() > 0 && together(weights) == 0
+}
+
+/// Whether there are points, and no weight carries them.
+pub(crate) fn is_uncarried<C: Carried>(carried: &C) -> bool
+    ensures { result ≡ (nat_lt 0 (C.points carried.now) && sum (map (C.weight carried.now) (range_with_len 0 (C.agents carried.now))) == 0) }
+{
+    let mut weights = [0u32; 64];
+    is_uncarried_by(carried, &mut weights[..carried.agents()])
+}
+
+/// Writes the part that each agent carries; the weights are scratch memory.
+fn fill_parts_by<C: Carried>(carried: &C, weights: &mut [u32], parts: &mut [u64])
+    requires long { length weights.old ≡ C.agents carried.now }
+    requires parts_long { length parts.old ≡ C.agents carried.now }
+    requires limit { sum (map (C.weight carried.now) (range_with_len 0 (C.agents carried.now))) < 2 ^ 32 }
+    ensures value { parts.new ≡ parts_of (C.points carried.now) (map (C.weight carried.now) (range_with_len 0 (C.agents carried.now))) }
+    ensures bound { C.points carried.now ≤ 1000000000000000000 }
+{
+    fill_weights(carried, weights);
+    share(carried.points(), weights, parts);
+}
+
+/// Writes the part that each agent carries.
+pub(crate) fn fill_parts<C: Carried>(carried: &C, parts: &mut [u64])
+    requires long { length parts.old ≡ C.agents carried.now }
+    requires limit { sum (map (C.weight carried.now) (range_with_len 0 (C.agents carried.now))) < 2 ^ 32 }
+    ensures value { parts.new ≡ parts_of (C.points carried.now) (map (C.weight carried.now) (range_with_len 0 (C.agents carried.now))) }
+    ensures bound { C.points carried.now ≤ 1000000000000000000 }
+{
+    let mut weights = [0u32; 64];
+    fill_parts_by(carried, &mut weights[..carried.agents()], parts);
+}
