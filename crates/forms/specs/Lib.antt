@@ -1,3 +1,4 @@
+pub mod Roles
 pub mod Terms
 pub mod Measured
 pub mod Meaning

@@ -4,8 +4,9 @@ ghost use Rattle.forms.specs.Kinds.{block, quantity_in};
 ghost use Rattle.forms.specs.Kept.{block_keeps};
 
 use crate::form::ContractForm;
+use crate::hour::ContractHour;
 use crate::market::market_legs;
-use crate::{Contract, Facts, Legs, Parties};
+use crate::{Contract, Legs, Parties};
 use calendar::Band;
 
 /// Blocks of energy, kind 1: no margin, and in each band a quantity up to the seller's capacity.
@@ -40,11 +41,11 @@ impl ContractForm for Block {
             && terms.base <= capacity
     }
 
-    fn quantity(&self, terms: Contract, _parties: Parties, facts: Facts) -> u32 {
-        quantity_in(facts.band, terms)
+    fn quantity(&self, hour: ContractHour) -> u32 {
+        quantity_in(hour.facts.band, hour.terms)
     }
 
-    fn legs(&self, terms: Contract, _parties: Parties, facts: Facts, quantity: u32) -> Legs {
-        market_legs(terms, facts, quantity)
+    fn legs(&self, hour: ContractHour, quantity: u32) -> Legs {
+        market_legs(hour.terms, hour.facts, quantity)
     }
 }

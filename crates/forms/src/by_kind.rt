@@ -3,7 +3,8 @@ ghost use Rattle.forms.specs.Layers.{by_kind};
 ghost use Rattle.forms.specs.Kept.{by_kind_keeps};
 
 use crate::form::ContractForm;
-use crate::{Contract, Facts, Legs, Parties};
+use crate::hour::ContractHour;
+use crate::{Contract, Legs, Parties};
 
 /// Two forms as one: terms of the named kind go to the first, all others to the second.
 #[derive(Clone, Copy)]
@@ -26,19 +27,19 @@ impl<A: ContractForm, B: ContractForm> ContractForm for ByKind<A, B> {
         }
     }
 
-    fn quantity(&self, terms: Contract, parties: Parties, facts: Facts) -> u32 {
-        if terms.kind == self.kind {
-            self.first.quantity(terms, parties, facts)
+    fn quantity(&self, hour: ContractHour) -> u32 {
+        if hour.terms.kind == self.kind {
+            self.first.quantity(hour)
         } else {
-            self.second.quantity(terms, parties, facts)
+            self.second.quantity(hour)
         }
     }
 
-    fn legs(&self, terms: Contract, parties: Parties, facts: Facts, quantity: u32) -> Legs {
-        if terms.kind == self.kind {
-            self.first.legs(terms, parties, facts, quantity)
+    fn legs(&self, hour: ContractHour, quantity: u32) -> Legs {
+        if hour.terms.kind == self.kind {
+            self.first.legs(hour, quantity)
         } else {
-            self.second.legs(terms, parties, facts, quantity)
+            self.second.legs(hour, quantity)
         }
     }
 }

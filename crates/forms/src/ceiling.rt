@@ -3,7 +3,8 @@ ghost use Rattle.forms.specs.Layers.{capped};
 ghost use Rattle.std.proofs.Common.{rules};
 
 use crate::form::ContractForm;
-use crate::{Contract, Facts, Legs, Parties};
+use crate::hour::ContractHour;
+use crate::{Contract, Legs, Parties};
 
 /// A form whose quantities are lowered to the seller's capacity.
 #[derive(Clone, Copy)]
@@ -20,13 +21,11 @@ impl<F: ContractForm> ContractForm for Ceiling<F> {
         self.form.takes(terms, parties)
     }
 
-    fn quantity(&self, terms: Contract, parties: Parties, facts: Facts) -> u32 {
-        self.form
-            .quantity(terms, parties, facts)
-            .min(parties.seller.capacity)
+    fn quantity(&self, hour: ContractHour) -> u32 {
+        self.form.quantity(hour).min(hour.parties.seller.capacity)
     }
 
-    fn legs(&self, terms: Contract, parties: Parties, facts: Facts, quantity: u32) -> Legs {
-        self.form.legs(terms, parties, facts, quantity)
+    fn legs(&self, hour: ContractHour, quantity: u32) -> Legs {
+        self.form.legs(hour, quantity)
     }
 }

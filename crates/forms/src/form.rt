@@ -1,9 +1,10 @@
 //! What every contract form answers.
-ghost use Rattle.std.specs.Prelude.{◌≡◌, ◌≤◌};
-ghost use Rattle.forms.specs.Meaning.{Meaning, Settles, Keeps};
+ghost use Rattle.std.specs.Prelude.{◌≡◌, ◌≤◌, true};
+ghost use Rattle.forms.specs.Meaning.{Meaning, Keeps};
 ghost use Rattle.valuation.specs.Limits.{most_energy};
 
-use crate::{Contract, Facts, Legs, Parties};
+use crate::hour::ContractHour;
+use crate::{Contract, Legs, Parties};
 
 /// A kind of contract. Its answers are three functions, its meaning; to ask changes nothing.
 pub trait ContractForm {
@@ -14,15 +15,15 @@ pub trait ContractForm {
         ensures { result ≡ (meaning self.now).takes terms parties };
 
     /// The energy of an hour, in kilowatt-hours.
-    fn quantity(&self, terms: Contract, parties: Parties, facts: Facts) -> u32
-        requires { Settles (meaning self.now) terms parties facts }
-        ensures { result ≡ (meaning self.now).quantity terms parties facts };
+    fn quantity(&self, hour: ContractHour) -> u32
+        requires { (meaning self.now).takes hour.terms hour.parties ≡ true }
+        ensures { result ≡ (meaning self.now).quantity hour.terms hour.parties hour.facts };
 
     /// What so much energy of an hour is worth to the parties.
-    fn legs(&self, terms: Contract, parties: Parties, facts: Facts, quantity: u32) -> Legs
-        requires settles { Settles (meaning self.now) terms parties facts }
+    fn legs(&self, hour: ContractHour, quantity: u32) -> Legs
+        requires taken { (meaning self.now).takes hour.terms hour.parties ≡ true }
         requires limit { quantity ≤ most_energy }
-        ensures { result ≡ (meaning self.now).legs terms parties facts quantity };
+        ensures { result ≡ (meaning self.now).legs hour.terms hour.parties hour.facts quantity };
 
     // Quantities and legs are within their limits, and the two legs cancel.
     ghost keeps: { (form : Self) → Keeps (meaning form) };

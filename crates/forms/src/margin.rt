@@ -3,7 +3,8 @@ ghost use Rattle.forms.specs.Layers.{lowered};
 ghost use Rattle.std.proofs.Common.{rules};
 
 use crate::form::ContractForm;
-use crate::{Contract, Facts, Legs, Parties};
+use crate::hour::ContractHour;
+use crate::{Contract, Legs, Parties};
 
 /// A form whose quantities are lowered by the contract's margin, not below 0.
 #[derive(Clone, Copy)]
@@ -20,13 +21,11 @@ impl<F: ContractForm> ContractForm for Margin<F> {
         self.form.takes(terms, parties)
     }
 
-    fn quantity(&self, terms: Contract, parties: Parties, facts: Facts) -> u32 {
-        self.form
-            .quantity(terms, parties, facts)
-            .saturating_sub(terms.margin)
+    fn quantity(&self, hour: ContractHour) -> u32 {
+        self.form.quantity(hour).saturating_sub(hour.terms.margin)
     }
 
-    fn legs(&self, terms: Contract, parties: Parties, facts: Facts, quantity: u32) -> Legs {
-        self.form.legs(terms, parties, facts, quantity)
+    fn legs(&self, hour: ContractHour, quantity: u32) -> Legs {
+        self.form.legs(hour, quantity)
     }
 }

@@ -2,7 +2,7 @@
 ghost use Rattle.std.specs.Prelude.{◌≡◌, Decides};
 ghost use Rattle.forms.specs.Measured.{Measured, measured_facts, prices_fit, energies_fit};
 
-use crate::terms::DISTRIBUTOR;
+use crate::roles::Role;
 use crate::{Facts, Parties};
 use valuation::{LEAST_FACTOR, MOST_ENERGY, MOST_FACTOR, MOST_PRICE};
 
@@ -26,7 +26,7 @@ fn do_energies_fit(parties: Parties, facts: Facts) -> bool
     }
     let all = u64::from(facts.distributors_withdrawn);
     let most = u64::from(MOST_ENERGY);
-    if parties.buyer.role == DISTRIBUTOR {
+    if parties.buyer.known_role() == Some(Role::Distributor) {
         facts.withdrawn <= facts.distributors_withdrawn && all <= most
     } else {
         u64::from(facts.withdrawn) + all <= most

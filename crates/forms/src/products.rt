@@ -7,9 +7,10 @@ use crate::block::{BLOCK_KIND, Block};
 use crate::by_kind::ByKind;
 use crate::ceiling::Ceiling;
 use crate::form::ContractForm;
+use crate::hour::ContractHour;
 use crate::margin::Margin;
 use crate::share::Share;
-use crate::{Contract, Facts, Legs, Parties};
+use crate::{Contract, Legs, Parties};
 
 /// The product's form: blocks of kind 1 up to the seller's capacity; shares of kind 2, lowered by their margin, up to it. It takes
 /// no other kind.
@@ -38,11 +39,11 @@ impl ContractForm for Product {
         parts().takes(terms, parties)
     }
 
-    fn quantity(&self, terms: Contract, parties: Parties, facts: Facts) -> u32 {
-        parts().quantity(terms, parties, facts)
+    fn quantity(&self, hour: ContractHour) -> u32 {
+        parts().quantity(hour)
     }
 
-    fn legs(&self, terms: Contract, parties: Parties, facts: Facts, quantity: u32) -> Legs {
-        parts().legs(terms, parties, facts, quantity)
+    fn legs(&self, hour: ContractHour, quantity: u32) -> Legs {
+        parts().legs(hour, quantity)
     }
 }

@@ -1,30 +1,25 @@
 //! Settling an hour of a contract, whatever its form.
-ghost use Rattle.std.specs.Prelude.{◌≡◌};
-ghost use Rattle.forms.specs.Meaning.{Meaning, Settles, Alike, Balanced, hour_legs};
+ghost use Rattle.std.specs.Prelude.{◌≡◌, true};
+ghost use Rattle.forms.specs.Meaning.{Meaning, Alike, Balanced, hour_legs};
 
+use crate::Legs;
 use crate::form::ContractForm;
-use crate::{Contract, Facts, Legs, Parties};
+use crate::hour::ContractHour;
 
 /// The legs of the hour's quantity.
-fn hour_legs<F: ContractForm>(form: &F, terms: Contract, parties: Parties, facts: Facts) -> Legs
-    requires { Settles (F.meaning form.now) terms parties facts }
-    ensures { result ≡ hour_legs (F.meaning form.now) terms parties facts }
+fn hour_legs<F: ContractForm>(form: &F, hour: ContractHour) -> Legs
+    requires { (F.meaning form.now).takes hour.terms hour.parties ≡ true }
+    ensures { result ≡ hour_legs (F.meaning form.now) hour.terms hour.parties hour.facts }
 {
-    let quantity = form.quantity(terms, parties, facts);
-    form.legs(terms, parties, facts, quantity)
+    form.legs(hour, form.quantity(hour))
 }
 
 /// The legs of an hour. They are balanced, and forms that are alike give the same.
-pub fn settle_hour<F: ContractForm>(
-    form: &F,
-    terms: Contract,
-    parties: Parties,
-    facts: Facts,
-) -> Legs
-    requires { Settles (F.meaning form.now) terms parties facts }
-    ensures value { result ≡ hour_legs (F.meaning form.now) terms parties facts }
+pub fn settle_hour<F: ContractForm>(form: &F, hour: ContractHour) -> Legs
+    requires { (F.meaning form.now).takes hour.terms hour.parties ≡ true }
+    ensures value { result ≡ hour_legs (F.meaning form.now) hour.terms hour.parties hour.facts }
     ensures balanced { Balanced result }
-    ensures alike { (other : Meaning) → Alike (F.meaning form.now) other → result ≡ hour_legs other terms parties facts }
+    ensures alike { (other : Meaning) → Alike (F.meaning form.now) other → result ≡ hour_legs other hour.terms hour.parties hour.facts }
 {
-    hour_legs(form, terms, parties, facts)
+    hour_legs(form, hour)
 }

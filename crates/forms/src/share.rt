@@ -5,8 +5,9 @@ ghost use Rattle.valuation.specs.Limits.{most_energy};
 ghost use Rattle.forms.specs.Kept.{share_keeps};
 
 use crate::form::ContractForm;
+use crate::hour::ContractHour;
 use crate::market::market_legs;
-use crate::terms::{DISTRIBUTOR, GENERATOR};
+use crate::roles::Role;
 use crate::{Contract, Facts, Legs, Parties};
 
 /// Shares of what a generator injects, kind 2: a distributor's share of it is its share of what all distributors withdraw.
@@ -39,15 +40,15 @@ impl ContractForm for Share {
             && terms.peak == 0
             && terms.medium == 0
             && terms.base == 0
-            && parties.seller.role == GENERATOR
-            && parties.buyer.role == DISTRIBUTOR
+            && parties.seller.known_role() == Some(Role::Generator)
+            && parties.buyer.known_role() == Some(Role::Distributor)
     }
 
-    fn quantity(&self, _terms: Contract, _parties: Parties, facts: Facts) -> u32 {
-        shared_energy(facts)
+    fn quantity(&self, hour: ContractHour) -> u32 {
+        shared_energy(hour.facts)
     }
 
-    fn legs(&self, terms: Contract, _parties: Parties, facts: Facts, quantity: u32) -> Legs {
-        market_legs(terms, facts, quantity)
+    fn legs(&self, hour: ContractHour, quantity: u32) -> Legs {
+        market_legs(hour.terms, hour.facts, quantity)
     }
 }

@@ -5,28 +5,18 @@ ghost use Rattle.forms.specs.Terms.{Valid, valid_terms, parties_fit, numbers_fit
 use crate::{Contract, Parties};
 use valuation::{MOST_ENERGY, MOST_PRICE};
 
-/// A generator's role.
-pub(crate) const GENERATOR: u32 = 1;
-
-/// A distributor's role.
-pub(crate) const DISTRIBUTOR: u32 = 2;
-
-/// A large consumer's role.
-pub(crate) const CONSUMER: u32 = 3;
-
 /// The most agents of a book.
 const MOST_AGENTS: u32 = 64;
 
 /// The most hours of a month.
 const MOST_HOURS: u32 = 744;
 
-/// Whether an agent in the role `seller` may sell to one in the role `buyer`.
-fn do_roles_fit(seller: u32, buyer: u32) -> bool
-    ensures { result ≡ roles_fit seller buyer }
+/// Whether the seller's role may sell to the buyer's.
+fn do_roles_fit(parties: Parties) -> bool
+    ensures { result ≡ roles_fit parties.seller.role parties.buyer.role }
 {
-    match seller {
-        GENERATOR => buyer == DISTRIBUTOR || buyer == CONSUMER,
-        DISTRIBUTOR => buyer == CONSUMER,
+    match (parties.seller.known_role(), parties.buyer.known_role()) {
+        (Some(seller), Some(buyer)) => seller.may_sell_to(buyer),
         _ => false,
     }
 }
@@ -35,7 +25,7 @@ fn do_roles_fit(seller: u32, buyer: u32) -> bool
 fn do_parties_fit(parties: Parties) -> bool
     ensures { result ≡ parties_fit parties }
 {
-    do_roles_fit(parties.seller.role, parties.buyer.role)
+    do_roles_fit(parties)
         && parties.seller.capacity <= MOST_ENERGY
         && parties.buyer.capacity <= MOST_ENERGY
 }

@@ -1,7 +1,7 @@
 // Worked figures of blocks and shares, and the limits of terms and facts on both sides.
 use crate::{
-    Contract, ContractForm, Delivery, Facts, Legs, Parties, Party, Product, is_measured, is_valid,
-    settle_hour,
+    Contract, ContractForm, ContractHour, Delivery, Facts, Legs, Parties, Party, Product,
+    is_measured, is_valid, settle_hour,
 };
 use calendar::Band;
 use std::test::Fail;
@@ -62,9 +62,9 @@ fn settled<F: ContractForm>(
     parties: Parties,
     facts: Facts,
 ) -> Option<(u32, Legs)> {
-    if form.takes(terms, parties) && is_valid(terms, parties) && is_measured(parties, facts) {
-        let quantity = form.quantity(terms, parties, facts);
-        Some((quantity, settle_hour(form, terms, parties, facts)))
+    let hour = ContractHour::checked(terms, parties, facts)?;
+    if form.takes(terms, parties) {
+        Some((form.quantity(hour), settle_hour(form, hour)))
     } else {
         None
     }

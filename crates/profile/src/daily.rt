@@ -4,7 +4,7 @@ ghost use Rattle.profile.specs.Profile.{profile, profiled};
 ghost use Rattle.profile.specs.Kept.{profile_keeps};
 
 use calendar::Band;
-use forms::{Contract, ContractForm, Facts, Legs, Parties};
+use forms::{Contract, ContractForm, ContractHour, Legs, Parties};
 use valuation::cost_amount;
 
 /// A daily profile, kind 3: the base quantity in base hours, a half of it in medium and a quarter in peak hours. The buyer pays
@@ -35,12 +35,12 @@ impl ContractForm for DailyProfile {
         terms.kind == PROFILE_KIND && terms.peak == 0 && terms.medium == 0 && terms.margin == 0
     }
 
-    fn quantity(&self, terms: Contract, _parties: Parties, facts: Facts) -> u32 {
-        profiled_quantity(facts.band, terms.base)
+    fn quantity(&self, hour: ContractHour) -> u32 {
+        profiled_quantity(hour.facts.band, hour.terms.base)
     }
 
-    fn legs(&self, terms: Contract, _parties: Parties, _facts: Facts, quantity: u32) -> Legs {
-        let cost = cost_amount(quantity, terms.price) as i64;
+    fn legs(&self, hour: ContractHour, quantity: u32) -> Legs {
+        let cost = cost_amount(quantity, hour.terms.price) as i64;
         Legs {
             seller: cost,
             buyer: -cost,

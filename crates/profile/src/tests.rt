@@ -1,9 +1,7 @@
 // Daily profiles, alone and beside the product.
 use crate::{DailyProfile, whole_range};
 use calendar::Band;
-use forms::{
-    Contract, ContractForm, Delivery, Facts, Parties, Party, is_measured, is_valid, settle_hour,
-};
+use forms::{Contract, ContractForm, ContractHour, Delivery, Facts, Parties, Party, settle_hour};
 
 const PROFILE: Contract = Contract {
     delivery: Delivery::MarketBar,
@@ -42,8 +40,9 @@ const FACTS: Facts = Facts {
 
 /// What the seller gets in an hour; none where the form, the terms or the facts are refused.
 fn sold<F: ContractForm>(form: &F, terms: Contract, facts: Facts) -> Option<i64> {
-    if form.takes(terms, PARTIES) && is_valid(terms, PARTIES) && is_measured(PARTIES, facts) {
-        Some(settle_hour(form, terms, PARTIES, facts).seller)
+    let hour = ContractHour::checked(terms, PARTIES, facts)?;
+    if form.takes(terms, PARTIES) {
+        Some(settle_hour(form, hour).seller)
     } else {
         None
     }

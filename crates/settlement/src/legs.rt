@@ -13,7 +13,7 @@ use crate::holdings::Entry;
 use crate::postings::MeasuredPosting;
 use crate::terms::{does_cover, parties};
 use calendar::Weekday;
-use forms::{Contract, ContractForm, Facts, Legs, settle_hour};
+use forms::{Contract, ContractForm, ContractHour, Facts, Legs, settle_hour};
 use tally::{Energy, Money, Pair, Tally};
 
 /// An entry with points on its contract line alone.
@@ -111,13 +111,9 @@ impl<F: ContractForm> HourPool<'_, F> {
         ensures value { result ≡ legs_of (F.meaning self.now.form.now) self.now.weekday self.now.posting.agents.now self.now.posting.stamp.hour self.now.posting.price self.now.posting.lines.now contract }
         ensures balanced { Balanced result }
     {
-        let facts = self.facts(contract);
-        settle_hour(
-            self.form,
-            contract,
-            parties(self.posting.agents, contract),
-            facts,
-        )
+        let parties = parties(self.posting.agents, contract);
+        let hour = ContractHour::new(contract, parties, self.facts(contract));
+        settle_hour(self.form, hour)
     }
 
     /// Puts what a contract place comes to in the hour on the contract lines: the legs of a contract that covers it.

@@ -6,6 +6,6 @@ returns g c =
     let keeps = g.met.F.ContractForm.keeps c.args.form.now in
     record {
       value = c.hour_legs.ensures;
-      balanced = hour_balanced keeps _ _ _ c.requires _ c.hour_legs.ensures;
-      alike = hour_alike keeps _ _ _ c.requires _ c.hour_legs.ensures;
+      balanced = hour_balanced keeps c.args.hour c.requires _ c.hour_legs.ensures;
+      alike = hour_alike keeps c.args.hour c.requires _ c.hour_legs.ensures;
     }
