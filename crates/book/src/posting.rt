@@ -2,7 +2,6 @@
 ghost use Rattle.std.specs.Prelude.{◌≡◌, ◌*◌, length};
 ghost use Rattle.settlement.specs.Holdings.{entry_of};
 ghost use Rattle.settlement.specs.Hour.{own_of};
-ghost use Rattle.settlement.specs.PostingFaults.{Measured};
 ghost use Rattle.book.specs.Calls.{outcome_of, posted, withdrawn, entries_with, accounts_with};
 ghost use Rattle.book.specs.Lent.{memory_in, SameLoan};
 ghost use Rattle.book.specs.Months.{figures_of, hours_of};
@@ -10,8 +9,7 @@ ghost use Rattle.book.specs.Months.{figures_of, hours_of};
 use crate::memory::{Ledger, Pool};
 use crate::months::OpenMonth;
 use crate::rewrites::replace_hour;
-use calendar::HourStamp;
-use settlement::{Account, Agent, BookFault, Entry, Line, check_carriers, fill_entries};
+use settlement::{Account, BookFault, Entry, Line, MeasuredPosting};
 use tally::{Pair, Tally};
 
 /// The mark of an hour at which nothing stands.
@@ -22,26 +20,19 @@ const POSTED: u8 = 1;
 
 /// Writes what a posting gives each agent at its hour; the fresh entries are scratch memory.
 fn write_posting(
-    stamp: HourStamp,
-    price: u32,
-    lines: &[Line],
-    agents: &[Agent],
+    posting: &MeasuredPosting<'_>,
     fresh: &mut [Entry],
     accounts: &mut [Account],
     entries: &mut [Entry],
 )
-    requires measured { Measured price lines.now }
-    requires agents_long { length agents.now ≡ length lines.now }
-    requires fresh_long { length fresh.old ≡ length lines.now }
-    requires accounts_long { length accounts.old ≡ length lines.now }
-    requires entries_long { length entries.old ≡ length lines.now * hours_of stamp.days }
-    ensures entries { entries.new ≡ entries_with (hours_of stamp.days) stamp.hour (λ i. entry_of (own_of agents.now price lines.now i)) entries.old }
-    ensures accounts { accounts.new ≡ accounts_with (hours_of stamp.days) stamp.hour (λ i. entry_of (own_of agents.now price lines.now i)) entries.old accounts.old }
+    requires fresh_long { length fresh.old ≡ length posting.now.lines.now }
+    requires accounts_long { length accounts.old ≡ length posting.now.lines.now }
+    requires entries_long { length entries.old ≡ length posting.now.lines.now * hours_of posting.now.stamp.days }
+    ensures entries { entries.new ≡ entries_with (hours_of posting.now.stamp.days) posting.now.stamp.hour (λ i. entry_of (own_of posting.now.agents.now posting.now.price posting.now.lines.now i)) entries.old }
+    ensures accounts { accounts.new ≡ accounts_with (hours_of posting.now.stamp.days) posting.now.stamp.hour (λ i. entry_of (own_of posting.now.agents.now posting.now.price posting.now.lines.now i)) entries.old accounts.old }
 {
-    let count = lines.len();
-    let mut parts = [0u64; 64];
-    fill_entries(agents, price, lines, &mut parts[0..count], fresh);
-    replace_hour(stamp, fresh, accounts, entries);
+    posting.fill_entries(fresh);
+    replace_hour(posting.stamp, fresh, accounts, entries);
 }
 
 /// Posts an hour: its price, and a line for each agent. The posting of an hour that is posted already corrects it.
@@ -57,17 +48,13 @@ pub fn post(
     ensures value { outcome_of result (memory_in pool.now ledger.new) ≡ posted (figures_of month.now) hour price lines.now (memory_in pool.now ledger.old) }
 {
     ledger.view(pool).check(month)?;
-    let stamp = month.check_posting(hour, price, lines, pool.agents)?;
-    check_carriers(pool.agents, price, lines)?;
-    let count = lines.len();
+    let posting = month.check_posting(hour, price, lines, pool.agents)?;
+    posting.check_carriers()?;
     let nothing: Entry = Pair::neutral();
     let mut fresh = [nothing; 64];
     write_posting(
-        stamp,
-        price,
-        lines,
-        pool.agents,
-        &mut fresh[0..count],
+        &posting,
+        &mut fresh[..lines.len()],
         ledger.accounts,
         ledger.entries,
     );
@@ -94,7 +81,7 @@ pub fn withdraw(
     let fresh = [nothing; 64];
     replace_hour(
         stamp,
-        &fresh[0..pool.agents.len()],
+        &fresh[..pool.agents.len()],
         ledger.accounts,
         ledger.entries,
     );

@@ -2,12 +2,12 @@
 ghost use Rattle.std.specs.Prelude.{◌≡◌, ◌≤◌, IfOk, OnOk, length};
 ghost use Rattle.std.specs.Result.{result_err};
 ghost use Rattle.calendar.specs.Weekdays.{number_of};
-ghost use Rattle.settlement.specs.PostingFaults.{hour_fault, line_fault, Measured};
+ghost use Rattle.settlement.specs.PostingFaults.{hour_fault, line_fault};
 ghost use Rattle.book.specs.Months.{figures_of, month_figures, hours_of};
 
 use crate::months::{MonthFigures, OpenMonth};
 use calendar::{HourStamp, Weekday};
-use settlement::{Agent, Line, LineFault, check_hour, check_posting};
+use settlement::{Agent, Line, LineFault, MeasuredPosting, check_hour, check_posting};
 
 impl OpenMonth {
     /// A month with these figures: for an accepted opening alone.
@@ -57,19 +57,19 @@ impl OpenMonth {
         check_hour(self.days, hour)
     }
 
-    /// The stamp of a posting's hour, or the first fault of its own figures.
-    pub(crate) fn check_posting(
+    /// The posting of one of its hours, or the first fault of the posting's own figures.
+    pub(crate) fn check_posting<'a>(
         &self,
         hour: u32,
         price: u32,
-        lines: &[Line],
-        agents: &[Agent],
-    ) -> Result<HourStamp, LineFault>
+        lines: &'a [Line],
+        agents: &'a [Agent],
+    ) -> Result<MeasuredPosting<'a>, LineFault>
         requires { length agents.now ≡ self.now.agents }
         ensures fault { result_err result ≡ line_fault self.now.agents (hours_of self.now.days) agents.now hour price lines.now }
-        ensures stamp { IfOk result (λ s. (s.hour ≡ hour) × (s.days ≡ self.now.days)) }
+        ensures stamp { IfOk result (λ p. (p.stamp.hour ≡ hour) × (p.stamp.days ≡ self.now.days)) }
+        ensures figures { IfOk result (λ p. (p.price ≡ price) × (p.lines.now ≡ lines.now) × (p.agents.now ≡ agents.now)) }
         ensures long { OnOk result (length lines.now ≡ self.now.agents) }
-        ensures measured { OnOk result (Measured price lines.now) }
     {
         check_posting(self.agents, self.days, hour, price, lines, agents)
     }

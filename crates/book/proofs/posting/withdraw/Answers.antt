@@ -12,8 +12,8 @@ use Rattle.book.proofs.Tables.{memory_fault, withdraw_refused, withdraw_accepted
 use Rattle.book.proofs.posting.withdraw.Goals as goal
 
 -- the first items of many equal ones
-front_replicate : (n most i : ℕ) (x : Holding) → i < n → n ≤ most → get_or (take (n - 0) (replicate most x)) i no_holding ≡ x
-front_replicate n most i x below few = get_or-take (n - 0) (replicate most x) i no_holding (omega arith) ∙ get_or-replicate most i x no_holding (omega arith)
+front_replicate : (n most i : ℕ) (x : Holding) → i < n → n ≤ most → get_or (take n (replicate most x)) i no_holding ≡ x
+front_replicate n most i x below few = get_or-take n (replicate most x) i no_holding (omega arith) ∙ get_or-replicate most i x no_holding (omega arith)
 
 pub returns-in_err-check-clause-value : goal.returns-in_err-check-clause-value
 returns-in_err-check-clause-value c =
@@ -31,7 +31,7 @@ returns-clause-value c =
     let count : n ≡ c.args.month.now.agents = search rules in
     let accounts_long : length c.args.ledger.now.accounts.now ≡ n = search rules in
     let entries_long : length c.args.ledger.now.entries.now ≡ n * hours_of c.args.month.now.days = search rules in
-    let fresh : ℕ → Holding = λ i. get_or (take (n - 0) (replicate 64 c.neutral-nothing.result)) i no_holding in
+    let fresh : ℕ → Holding = λ i. get_or (take n (replicate 64 c.neutral-nothing.result)) i no_holding in
     let neutral : (i : ℕ) → i < n → fresh i ≡ no_holding =
     λ i below. front_replicate n 64 i c.neutral-nothing.result below (subst (λ k. k ≤ 64) (sym count) c.args.month.now.few_agents) ∙ c.neutral-nothing.ensures in
     let long : length c.args.ledger.now.entries.now ≡ n * hours = entries_long ∙ ap (λ days. n * hours_of days) (sym is.1) in

@@ -9,10 +9,10 @@ use Rattle.book.proofs.posting.write_posting.Goals as goal
 
 pub returns : goal.returns
 returns c =
-    let stamp = c.args.stamp in
+    let stamp = c.args.posting.now.stamp in
     let hours = hours_of stamp.days in
-    let n = length c.args.lines.now in
-    let new : ℕ → Holding = λ i. entry_of (own_of c.args.agents.now c.args.price c.args.lines.now i) in
+    let n = length c.args.posting.now.lines.now in
+    let new : ℕ → Holding = λ i. entry_of (own_of c.args.posting.now.agents.now c.args.posting.now.price c.args.posting.now.lines.now i) in
     let fresh : ℕ → Holding = λ i. get_or c.fill_entries.new.fresh i no_holding in
     let same : (i : ℕ) → i < n → fresh i ≡ new i =
     λ i below. ap (λ es. get_or es i no_holding) c.fill_entries.ensures ∙ get_or-map-range_with_len new 0 n i i no_holding below (omega arith) in
