@@ -10,6 +10,10 @@ pub product_le : (energy factor price : ℕ) → energy ≤ most_energy → fact
 product_le energy factor price he hf hp =
     mul-le (energy * factor) price (most_energy * most_factor) most_price (mul-le energy factor most_energy most_factor he hf) hp
 
+-- the cost amount before rounding
+pub cost_product_le : (energy cost : ℕ) → energy ≤ most_energy → cost ≤ most_price → energy * cost ≤ most_energy * most_price
+cost_product_le energy cost he hc = mul-le energy cost most_energy most_price he hc
+
 -- an amount
 pub amount_of_le : (energy factor price : ℕ) → energy ≤ most_energy → factor ≤ most_factor → price ≤ most_price → amount_of energy factor price ≤ most_amount
 amount_of_le energy factor price he hf hp = omega (arith, product_le energy factor price he hf hp)

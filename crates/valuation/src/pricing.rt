@@ -19,28 +19,10 @@ fn to_points(units: u64, per_point: u64) -> u64
     (units + per_point / 2) / per_point
 }
 
-/// The amount before rounding, in ten-millionths of a point.
-fn exact_amount(energy: u32, factor: u32, price: u32) -> u64
-    requires energy_limit { energy ≤ most_energy }
-    requires factor_limit { factor ≤ most_factor }
-    requires price_limit { price ≤ most_price }
-    ensures value { result ≡ energy * factor * price }
-    ensures bound { result ≤ most_energy * most_factor * most_price }
-{
-    u64::from(energy) * u64::from(factor) * u64::from(price)
-}
-
-/// The cost amount before rounding, in hundredths of a point.
-fn exact_cost(energy: u32, cost: u32) -> u64
-    requires energy_limit { energy ≤ most_energy }
-    requires cost_limit { cost ≤ most_price }
-    ensures value { result ≡ energy * cost }
-    ensures bound { result ≤ most_energy * most_price }
-{
-    u64::from(energy) * u64::from(cost)
-}
+// Kept as limits of raw figures, here and in `excess`: callers hold figures, and a narrower type would ask more of them.
 
 /// The amount of `energy` kWh at a node factor and a price, in points.
+#[tactic(auto, using(crate::proofs::Amounts::product_le))]
 pub fn amount(energy: u32, factor: u32, price: u32) -> u64
     requires energy_limit { energy ≤ most_energy }
     requires factor_limit { factor ≤ most_factor }
@@ -49,10 +31,14 @@ pub fn amount(energy: u32, factor: u32, price: u32) -> u64
     ensures nearest { NearestUp (energy * factor * price) 10000000 result }
     ensures bound { result ≤ most_amount }
 {
-    to_points(exact_amount(energy, factor, price), AMOUNT_UNITS)
+    to_points(
+        u64::from(energy) * u64::from(factor) * u64::from(price),
+        AMOUNT_UNITS,
+    )
 }
 
 /// The cost amount of `energy` kWh at a cost, in points.
+#[tactic(auto, using(crate::proofs::Amounts::cost_product_le))]
 pub fn cost_amount(energy: u32, cost: u32) -> u64
     requires energy_limit { energy ≤ most_energy }
     requires cost_limit { cost ≤ most_price }
@@ -60,5 +46,5 @@ pub fn cost_amount(energy: u32, cost: u32) -> u64
     ensures nearest { NearestUp (energy * cost) 100 result }
     ensures bound { result ≤ most_cost_amount }
 {
-    to_points(exact_cost(energy, cost), COST_UNITS)
+    to_points(u64::from(energy) * u64::from(cost), COST_UNITS)
 }

@@ -1,23 +1,52 @@
 // Sharing points over weights, to the last point.
-ghost use Rattle.std.specs.Prelude.{◌≡◌, ◌+◌, ◌-◌, ◌*◌, ◌/◌, ◌^◌, ◌<◌, ◌≤◌, length, sum};
+ghost use Rattle.std.specs.Prelude.{◌≡◌, ◌+◌, ◌*◌, ◌/◌, ◌%◌, ◌^◌, ◌<◌, ◌≤◌, length, sum};
 ghost use Rattle.valuation.specs.Sharing.{part_at, parts_of, AddsUp, Fair};
 
-/// The sum of the weights.
-fn total(weights: &[u32]) -> u32
-    requires { sum weights.now < 2 ^ 32 }
-    ensures { result ≡ sum weights.now }
-{
-    weights.iter().sum()
+/// A sharing on its way: the points, the total of the weights, and the sum of those before the next.
+#[derive(Drop)]
+struct Split {
+    points: u64,
+    total: u64,
+    before: u64,
+    ghost within: { before ≤ total },
+    ghost total_limit: { total < 2 ^ 32 },
 }
 
-/// The part of one weight in the remainder: what the running share, rounded down, grows by.
-fn remainder_part(remainder: u64, total: u64, before: u64, weight: u64) -> u64
-    requires below { remainder < total }
-    requires within { before + weight ≤ total }
-    requires total_limit { total < 2 ^ 32 }
-    ensures { result ≡ (remainder * (before + weight)) / total - (remainder * before) / total }
-{
-    remainder * (before + weight) / total - remainder * before / total
+impl Split {
+    /// What the remainder gives weights of this sum together, rounded down.
+    fn running(&self, sum: u64) -> u64
+        requires some { 0 < self.now.total }
+        requires within { sum ≤ self.now.total }
+        ensures { result ≡ self.now.points % self.now.total * sum / self.now.total }
+    {
+        self.points % self.total * sum / self.total
+    }
+
+    /// The part of the next weight. It is 0 where the total is 0.
+    #[tactic(auto, using(crate::proofs::Sharing::part_at_within))]
+    fn part(&self, weight: u64) -> u64
+        requires within { self.now.before + weight ≤ self.now.total }
+        ensures value { result ≡ part_at self.now.points self.now.total self.now.before weight }
+        ensures bound { result ≤ self.now.points }
+    {
+        if self.total == 0 {
+            return 0;
+        }
+        let of_remainder = self.running(self.before + weight) - self.running(self.before);
+        self.points / self.total * weight + of_remainder
+    }
+
+    /// The part of the next weight, which then counts as one before.
+    fn next_part(&mut self, weight: u64) -> u64
+        requires within { self.old.before + weight ≤ self.old.total }
+        ensures value { result ≡ part_at self.old.points self.old.total self.old.before weight }
+        ensures after { self.new.before ≡ self.old.before + weight }
+        ensures same { (self.new.points ≡ self.old.points) × (self.new.total ≡ self.old.total) }
+    {
+        let part = self.part(weight);
+        self.before += weight;
+        part
+    }
 }
 
 /// The part of one weight, when `points` are shared over weights that add up to `total`, those before it to `before`.
@@ -28,22 +57,12 @@ pub fn part(points: u64, total: u64, before: u64, weight: u64) -> u64
     ensures value { result ≡ part_at points total before weight }
     ensures bound { result ≤ points }
 {
-    if total == 0 {
-        return 0;
+    Split {
+        points,
+        total,
+        before,
     }
-    points / total * weight + remainder_part(points % total, total, before, weight)
-}
-
-/// The part of the next weight. The running sum `before` moves on past it.
-fn next_part(points: u64, total: u64, before: &mut u64, weight: u64) -> u64
-    requires within { before.old + weight ≤ total }
-    requires total_limit { total < 2 ^ 32 }
-    ensures value { result ≡ part_at points total before.old weight }
-    ensures after { before.new ≡ before.old + weight }
-{
-    let part = part(points, total, *before, weight);
-    *before += weight;
-    part
+    .part(weight)
 }
 
 /// Shares `points` over the weights, and writes each weight's part to its place in `parts`.
@@ -55,9 +74,14 @@ pub fn share(points: u64, weights: &[u32], parts: &mut [u64])
     ensures adds_up { AddsUp points weights.now parts.new }
     ensures fair { Fair points weights.now parts.new }
 {
-    let total = u64::from(total(weights));
-    let mut before = 0;
+    let total: u32 = weights.iter().sum();
+    let mut split = Split {
+        points,
+        total: u64::from(total),
+        before: 0,
+    };
+    // Kept by index: of what is written through `iter_mut` beside another iterator, nothing is known after.
     for (i, weight) in weights.iter().enumerate() {
-        parts[i] = next_part(points, total, &mut before, u64::from(*weight));
+        parts[i] = split.next_part(u64::from(*weight));
     }
 }
