@@ -71,10 +71,7 @@ fn settled<F: ContractForm>(
 }
 
 fn settled_quantity(terms: Contract, capacity: u32, facts: Facts) -> Option<u32> {
-    match settled(&Product, terms, between(1, 2, capacity), facts) {
-        Some((quantity, _)) => Some(quantity),
-        None => None,
-    }
+    settled(&Product, terms, between(1, 2, capacity), facts).map(|(quantity, _)| quantity)
 }
 
 #[test]
