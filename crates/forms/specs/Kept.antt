@@ -22,18 +22,18 @@ share_keeps = record {
 }
 
 -- a layer, which lowers quantities alone
-pub layered_keeps : (rule : Rule) → NeverRaises rule → {form : Meaning} → Keeps form → Keeps (layered rule form)
-layered_keeps rule lowers {form} keeps = record {
+pub layered_keeps : {rule : Rule} → NeverRaises rule → {form : Meaning} → Keeps form → Keeps (layered rule form)
+layered_keeps {rule} lowers {form} keeps = record {
   quantity = λ terms parties facts settled.
       omega (arith, lowers terms parties (form.quantity terms parties facts), keeps.quantity terms parties facts settled);
   legs = keeps.legs;
 }
 
 pub lowered_keeps : {form : Meaning} → Keeps form → Keeps (lowered form)
-lowered_keeps keeps = layered_keeps less_margin (λ terms parties quantity. omega arith) keeps
+lowered_keeps keeps = layered_keeps {rule = less_margin} (λ terms parties quantity. omega arith) keeps
 
 pub capped_keeps : {form : Meaning} → Keeps form → Keeps (capped form)
-capped_keeps keeps = layered_keeps up_to_capacity (λ terms parties quantity. omega arith) keeps
+capped_keeps keeps = layered_keeps {rule = up_to_capacity} (λ terms parties quantity. omega arith) keeps
 
 -- two forms as one
 either_keeps : (test : Bool) {first second : Meaning} → Keeps first → Keeps second → Keeps (cond test first second)

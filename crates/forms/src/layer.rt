@@ -1,5 +1,5 @@
 //! A layer over a form: it lowers quantities, and passes terms and legs through.
-ghost use Rattle.std.specs.Prelude.{◌≡◌, ℕ};
+ghost use Rattle.std.specs.Prelude.{◌≡◌};
 ghost use Rattle.forms.specs.Layers.{Rule, NeverRaises, layered};
 ghost use Rattle.forms.specs.Kept.{layered_keeps};
 
@@ -29,7 +29,7 @@ pub struct Layer<L, F> {
 impl<L: Lowering, F: ContractForm> ContractForm for Layer<L, F> {
     ghost meaning = { λ layer. layered (L.Lowering.rule layer.lowering) (F.ContractForm.meaning layer.form) };
 
-    ghost keeps = { λ layer. layered_keeps (L.Lowering.rule layer.lowering) (L.Lowering.never_raises layer.lowering) (F.ContractForm.keeps layer.form) };
+    ghost keeps = { λ layer. layered_keeps (L.Lowering.never_raises layer.lowering) (F.ContractForm.keeps layer.form) };
 
     fn takes(&self, terms: Contract, parties: Parties) -> bool {
         self.form.takes(terms, parties)
