@@ -4,7 +4,7 @@ use Rattle.std.proofs.Common.{arith}
 use Rattle.forms.specs.MarketLegs.{market_balanced}
 use Rattle.forms.specs.Quantities.{quantity_in_le, share_buyer, shared_energy_le}
 use Rattle.forms.specs.Kinds.{block, share}
-use Rattle.forms.specs.Layers.{by_kind, capped, lowered, product_meaning}
+use Rattle.forms.specs.Layers.{Rule, NeverRaises, less_margin, up_to_capacity, layered, by_kind, capped, lowered, product_meaning}
 use Rattle.forms.specs.Meaning.{Meaning, Keeps}
 
 -- the two kinds
@@ -21,18 +21,19 @@ share_keeps = record {
   legs = λ terms parties facts. market_balanced terms parties facts;
 }
 
--- the layers, which lower quantities alone
-pub lowered_keeps : {form : Meaning} → Keeps form → Keeps (lowered form)
-lowered_keeps keeps = record {
-  quantity = λ terms parties facts settled. omega (arith, keeps.quantity terms parties facts settled);
+-- a layer, which lowers quantities alone
+pub layered_keeps : {rule : Rule} → NeverRaises rule → {form : Meaning} → Keeps form → Keeps (layered rule form)
+layered_keeps {rule} lowers {form} keeps = record {
+  quantity = λ terms parties facts settled.
+      omega (arith, lowers terms parties (form.quantity terms parties facts), keeps.quantity terms parties facts settled);
   legs = keeps.legs;
 }
 
+pub lowered_keeps : {form : Meaning} → Keeps form → Keeps (lowered form)
+lowered_keeps keeps = layered_keeps {rule = less_margin} (λ terms parties quantity. omega arith) keeps
+
 pub capped_keeps : {form : Meaning} → Keeps form → Keeps (capped form)
-capped_keeps keeps = record {
-  quantity = λ terms parties facts settled. omega (arith, keeps.quantity terms parties facts settled);
-  legs = keeps.legs;
-}
+capped_keeps keeps = layered_keeps {rule = up_to_capacity} (λ terms parties quantity. omega arith) keeps
 
 -- two forms as one
 either_keeps : (test : Bool) {first second : Meaning} → Keeps first → Keeps second → Keeps (cond test first second)

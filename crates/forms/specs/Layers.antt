@@ -1,24 +1,41 @@
 -- Forms made of forms. Assumes nothing.
-use Rattle.std.specs.Prelude.{ℕ, ◌-◌, min, cond, ◌==◌}
+use Rattle.std.specs.Prelude.{ℕ, ◌-◌, ◌≤◌, min, cond, ◌==◌}
 use Rattle.forms.specs.Kinds.{block, share}
 use Rattle.forms.specs.Meaning.{Meaning}
 use Rattle.forms.specs.declared.Contract.{Contract}
+use Rattle.forms.specs.declared.Parties.{Parties}
 
--- The quantity lowered by the contract's margin. It is at least 0, since natural subtraction stops there.
-abbrev pub lowered : Meaning → Meaning
-lowered form = record {
+-- A rule for quantities: what is left of one.
+abbrev pub Rule : Type 0
+Rule = Contract → Parties → ℕ → ℕ
+
+-- It leaves no more than there was.
+abbrev pub NeverRaises : Rule → Type 0
+NeverRaises rule = (terms : Contract) (parties : Parties) (quantity : ℕ) → rule terms parties quantity ≤ quantity
+
+-- A form's quantity, by a rule; terms and legs pass through.
+abbrev pub layered : Rule → Meaning → Meaning
+layered rule form = record {
   takes = form.takes;
-  quantity = λ terms parties facts. form.quantity terms parties facts - terms.margin;
+  quantity = λ terms parties facts. rule terms parties (form.quantity terms parties facts);
   legs = form.legs;
 }
+
+-- Less the contract's margin. It is at least 0, since natural subtraction stops there.
+abbrev pub less_margin : Rule
+less_margin terms parties quantity = quantity - terms.margin
+
+-- At most the seller's capacity.
+abbrev pub up_to_capacity : Rule
+up_to_capacity terms parties quantity = min quantity parties.seller.capacity
+
+-- The quantity lowered by the contract's margin.
+abbrev pub lowered : Meaning → Meaning
+lowered = layered less_margin
 
 -- The quantity lowered to the seller's capacity.
 abbrev pub capped : Meaning → Meaning
-capped form = record {
-  takes = form.takes;
-  quantity = λ terms parties facts. min (form.quantity terms parties facts) parties.seller.capacity;
-  legs = form.legs;
-}
+capped = layered up_to_capacity
 
 -- Of two forms the one that terms go to: the first if they have the named kind, else the second.
 abbrev pub picked : ℕ → Meaning → Meaning → Contract → Meaning

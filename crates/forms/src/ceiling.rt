@@ -1,31 +1,23 @@
-//! A layer over a form: it lowers quantities to the seller's capacity, and passes terms and legs through.
-ghost use Rattle.forms.specs.Layers.{capped};
+//! Quantities lowered to the seller's capacity.
 ghost use Rattle.std.proofs.Common.{rules};
+ghost use Rattle.forms.specs.Layers.{up_to_capacity};
 
-use crate::form::ContractForm;
 use crate::hour::ContractHour;
-use crate::{Contract, Legs, Parties};
+use crate::layer::{Layer, Lowering};
+
+/// Lowers to the seller's capacity.
+#[derive(Clone, Copy)]
+pub struct ToCapacity;
 
 /// A form whose quantities are lowered to the seller's capacity.
-#[derive(Clone, Copy)]
-pub struct Ceiling<F> {
-    pub form: F,
-}
+pub type Ceiling<F> = Layer<ToCapacity, F>;
 
-impl<F: ContractForm> ContractForm for Ceiling<F> {
-    ghost meaning = { λ layer. capped (F.ContractForm.meaning layer.form) };
+impl Lowering for ToCapacity {
+    ghost rule = { λ _. up_to_capacity };
 
-    ghost keeps = { Prim.search rules };
+    ghost never_raises = { Prim.search rules };
 
-    fn takes(&self, terms: Contract, parties: Parties) -> bool {
-        self.form.takes(terms, parties)
-    }
-
-    fn quantity(&self, hour: ContractHour) -> u32 {
-        self.form.quantity(hour).min(hour.parties.seller.capacity)
-    }
-
-    fn legs(&self, hour: ContractHour, quantity: u32) -> Legs {
-        self.form.legs(hour, quantity)
+    fn lower(&self, hour: ContractHour, quantity: u32) -> u32 {
+        quantity.min(hour.parties.seller.capacity)
     }
 }

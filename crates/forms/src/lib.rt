@@ -9,6 +9,7 @@ mod by_kind;
 mod ceiling;
 mod form;
 mod hour;
+mod layer;
 mod margin;
 mod market;
 mod measures;
@@ -23,10 +24,11 @@ mod tests;
 pub use block::Block;
 pub use by_kind::ByKind;
 use calendar::Band;
-pub use ceiling::Ceiling;
+pub use ceiling::{Ceiling, ToCapacity};
 pub use form::ContractForm;
 pub use hour::ContractHour;
-pub use margin::Margin;
+pub use layer::{Layer, Lowering};
+pub use margin::{ByMargin, Margin};
 pub use market::market_legs;
 pub use measures::is_measured;
 pub use products::Product;
@@ -47,6 +49,7 @@ pub enum Delivery {
 #[derive(Clone, Copy, PartialEq, Eq, Debug)]
 pub struct Contract {
     pub delivery: Delivery,
+    // Kept: a number, and no enum of kinds, since whoever writes a form chooses the kind that it takes.
     pub kind: u32,
     pub seller: u32,
     pub buyer: u32,
@@ -62,6 +65,7 @@ pub struct Contract {
 /// A party to a contract: its role (1 generator, 2 distributor, 3 large consumer) and its capacity in kilowatt-hours of an hour.
 #[derive(Clone, Copy)]
 pub struct Party {
+    // Kept: a number, since any figure must be answerable; `known_role` gives the role that it names.
     pub role: u32,
     pub capacity: u32,
 }

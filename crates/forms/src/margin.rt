@@ -1,31 +1,23 @@
-//! A layer over a form: it lowers quantities by the contract's margin, and passes terms and legs through.
-ghost use Rattle.forms.specs.Layers.{lowered};
+//! Quantities lowered by the contract's margin.
 ghost use Rattle.std.proofs.Common.{rules};
+ghost use Rattle.forms.specs.Layers.{less_margin};
 
-use crate::form::ContractForm;
 use crate::hour::ContractHour;
-use crate::{Contract, Legs, Parties};
+use crate::layer::{Layer, Lowering};
 
-/// A form whose quantities are lowered by the contract's margin, not below 0.
+/// Lowers by the contract's margin, not below 0.
 #[derive(Clone, Copy)]
-pub struct Margin<F> {
-    pub form: F,
-}
+pub struct ByMargin;
 
-impl<F: ContractForm> ContractForm for Margin<F> {
-    ghost meaning = { λ layer. lowered (F.ContractForm.meaning layer.form) };
+/// A form whose quantities are lowered by the contract's margin.
+pub type Margin<F> = Layer<ByMargin, F>;
 
-    ghost keeps = { Prim.search rules };
+impl Lowering for ByMargin {
+    ghost rule = { λ _. less_margin };
 
-    fn takes(&self, terms: Contract, parties: Parties) -> bool {
-        self.form.takes(terms, parties)
-    }
+    ghost never_raises = { Prim.search rules };
 
-    fn quantity(&self, hour: ContractHour) -> u32 {
-        self.form.quantity(hour).saturating_sub(hour.terms.margin)
-    }
-
-    fn legs(&self, hour: ContractHour, quantity: u32) -> Legs {
-        self.form.legs(hour, quantity)
+    fn lower(&self, hour: ContractHour, quantity: u32) -> u32 {
+        quantity.saturating_sub(hour.terms.margin)
     }
 }

@@ -1,5 +1,5 @@
 //! Which facts an hour can have.
-ghost use Rattle.std.specs.Prelude.{◌≡◌, Decides};
+ghost use Rattle.std.specs.Prelude.{◌≡◌, ◌↔◌, IsTrue};
 ghost use Rattle.forms.specs.Measured.{Measured, measured_facts, prices_fit, energies_fit};
 
 use crate::roles::Role;
@@ -36,7 +36,7 @@ fn do_energies_fit(parties: Parties, facts: Facts) -> bool
 /// Whether these can be the facts of an accepted posting, for a contract between these parties.
 pub fn is_measured(parties: Parties, facts: Facts) -> bool
     ensures value { result ≡ measured_facts parties facts }
-    ensures decides { Decides result (Measured parties facts) }
+    ensures decides { IsTrue result ↔ Measured parties facts }
 {
     do_prices_fit(facts) && do_energies_fit(parties, facts)
 }

@@ -5,15 +5,17 @@ ghost use Rattle.forms.specs.Kept.{product_keeps};
 
 use crate::block::{BLOCK_KIND, Block};
 use crate::by_kind::ByKind;
-use crate::ceiling::Ceiling;
+use crate::ceiling::{Ceiling, ToCapacity};
 use crate::form::ContractForm;
 use crate::hour::ContractHour;
-use crate::margin::Margin;
+use crate::layer::Layer;
+use crate::margin::{ByMargin, Margin};
 use crate::share::Share;
 use crate::{Contract, Legs, Parties};
 
 /// The product's form: blocks of kind 1 up to the seller's capacity; shares of kind 2, lowered by their margin, up to it. It takes
 /// no other kind.
+// Kept: a type of its own, since an alias of its parts' type would leave the kind open and have no value named `Product`.
 #[derive(Clone, Copy)]
 pub struct Product;
 
@@ -23,9 +25,16 @@ fn parts() -> ByKind<Ceiling<Block>, Ceiling<Margin<Share>>>
 {
     ByKind {
         kind: BLOCK_KIND,
-        first: Ceiling { form: Block },
-        second: Ceiling {
-            form: Margin { form: Share },
+        first: Layer {
+            lowering: ToCapacity,
+            form: Block,
+        },
+        second: Layer {
+            lowering: ToCapacity,
+            form: Layer {
+                lowering: ByMargin,
+                form: Share,
+            },
         },
     }
 }

@@ -1,5 +1,5 @@
 //! Which terms a book may hold.
-ghost use Rattle.std.specs.Prelude.{◌≡◌, Decides};
+ghost use Rattle.std.specs.Prelude.{◌≡◌, ◌↔◌, IsTrue};
 ghost use Rattle.forms.specs.Terms.{Valid, valid_terms, parties_fit, numbers_fit, figures_fit, roles_fit};
 
 use crate::{Contract, Parties};
@@ -56,7 +56,7 @@ fn do_figures_fit(terms: Contract) -> bool
 /// Whether these terms, between these parties, can stand in some book: its month and its agents are for the book to compare.
 pub fn is_valid(terms: Contract, parties: Parties) -> bool
     ensures value { result ≡ valid_terms terms parties }
-    ensures decides { Decides result (Valid terms parties) }
+    ensures decides { IsTrue result ↔ Valid terms parties }
 {
     do_parties_fit(parties) && do_numbers_fit(terms) && do_figures_fit(terms)
 }

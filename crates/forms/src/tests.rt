@@ -1,7 +1,7 @@
 // Worked figures of blocks and shares, and the limits of terms and facts on both sides.
 use crate::{
-    Contract, ContractForm, ContractHour, Delivery, Facts, Legs, Parties, Party, Product,
-    is_measured, is_valid, settle_hour,
+    Contract, ContractForm, ContractHour, Delivery, Facts, Legs, Parties, Party, Product, Role,
+    UnknownRole, is_measured, is_valid, settle_hour,
 };
 use calendar::Band;
 use std::test::Fail;
@@ -71,10 +71,7 @@ fn settled<F: ContractForm>(
 }
 
 fn settled_quantity(terms: Contract, capacity: u32, facts: Facts) -> Option<u32> {
-    match settled(&Product, terms, between(1, 2, capacity), facts) {
-        Some((quantity, _)) => Some(quantity),
-        None => None,
-    }
+    settled(&Product, terms, between(1, 2, capacity), facts).map(|(quantity, _)| quantity)
 }
 
 #[test]
@@ -247,4 +244,24 @@ fn facts_that_are_measured(rt: HostRuntime) {
         };
         assert_eq!(rt; is_measured(between(1, role, 0), facts), measured);
     }
+}
+
+#[test]
+fn roles_by_number(rt: HostRuntime) -> Result<(), Fail> {
+    // whether a role is a generator's, and whether it carries what the pool pays
+    for (number, role, generates, carries) in [
+        (1, Role::Generator, true, false),
+        (2, Role::Distributor, false, true),
+        (3, Role::Consumer, false, true),
+    ] {
+        assert_eq!(rt; Role::try_from(number), Ok(role));
+        assert_eq!(rt; role.is_generator(), generates);
+        assert_eq!(rt; role.is_carrier(), carries);
+    }
+    for number in [0, 4] {
+        assert_eq!(rt; Role::try_from(number), Err(UnknownRole(number)));
+    }
+    let text = format!(in rt.alloc(); "{}", UnknownRole(4))?;
+    assert_eq!(rt; text.as_str(), "no role has number 4");
+    Ok(())
 }
