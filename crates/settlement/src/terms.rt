@@ -37,52 +37,45 @@ pub(crate) fn parties(agents: &[Agent], contract: Contract) -> Parties
     }
 }
 
-/// Whether a contract may stand in a month of so many hours: by its parties, its hours and figures, and the form's terms.
-pub fn may_stand<F: ContractForm>(
-    form: &F,
-    hours: u32,
-    agents: &[Agent],
-    contract: Contract,
-) -> bool
-    ensures { result ≡ contract_fits (F.meaning form.now) hours agents.now contract }
-{
-    if !is_in_book(agents, contract.seller) || !is_in_book(agents, contract.buyer) {
-        return false;
-    }
-    if contract.last >= hours {
-        return false;
-    }
-    let parties = parties(agents, contract);
-    is_valid(contract, parties) && form.takes(contract, parties)
+/// What decides which contracts may stand: the form that they are asked of, the hours of the month, and the agents.
+#[derive(Drop)]
+pub struct Admission<'a, F> {
+    pub form: &'a F,
+    pub hours: u32,
+    pub agents: &'a [Agent],
 }
 
-/// Whether what is in a contract place may stand there.
-fn is_place_fit<F: ContractForm>(
-    form: &F,
-    hours: u32,
-    agents: &[Agent],
-    place: &Option<Contract>,
-) -> bool
-    ensures { result ≡ place_fits (F.meaning form.now) hours agents.now place.now }
-{
-    match place {
-        Some(contract) => may_stand(form, hours, agents, *contract),
-        None => true,
+impl<F: ContractForm> Admission<'_, F> {
+    /// Whether a contract may stand: by its parties, its hours and figures, and the form's terms.
+    pub fn may_stand(&self, contract: Contract) -> bool
+        ensures { result ≡ contract_fits (F.meaning self.now.form.now) self.now.hours self.now.agents.now contract }
+    {
+        if !is_in_book(self.agents, contract.seller) || !is_in_book(self.agents, contract.buyer) {
+            return false;
+        }
+        if contract.last >= self.hours {
+            return false;
+        }
+        let parties = parties(self.agents, contract);
+        is_valid(contract, parties) && self.form.takes(contract, parties)
     }
-}
 
-/// Whether what is in each contract place may stand there.
-pub fn may_all_stand<F: ContractForm>(
-    form: &F,
-    hours: u32,
-    agents: &[Agent],
-    contracts: &[Option<Contract>],
-) -> bool
-    ensures { result ≡ all_of (place_fits (F.meaning form.now) hours agents.now) contracts.now }
-{
-    contracts
-        .iter()
-        .all(|place| is_place_fit(form, hours, agents, place))
+    /// Whether what is in a contract place may stand there.
+    fn is_place_fit(&self, place: &Option<Contract>) -> bool
+        ensures { result ≡ place_fits (F.meaning self.now.form.now) self.now.hours self.now.agents.now place.now }
+    {
+        match place {
+            Some(contract) => self.may_stand(*contract),
+            None => true,
+        }
+    }
+
+    /// Whether what is in each contract place may stand there.
+    pub fn may_all_stand(&self, contracts: &[Option<Contract>]) -> bool
+        ensures { result ≡ all_of (place_fits (F.meaning self.now.form.now) self.now.hours self.now.agents.now) contracts.now }
+    {
+        contracts.iter().all(|place| self.is_place_fit(place))
+    }
 }
 
 /// Whether a contract covers an hour.
