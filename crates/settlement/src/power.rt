@@ -112,6 +112,7 @@ fn charge_parts(agents: &[Agent], parts: &[u64], accounts: &mut [Entry])
     requires due_within { power_due agents.now ≤ 1000000000000000000 }
     ensures { accounts.new ≡ map (λ i. holding_joined (slice_index_or accounts.old i no_holding) (power_points (power_line agents.now (withdrawn_on accounts.old) i))) (range_with_len 0 (length accounts.old)) }
 {
+    // Kept by index: of what a `zip` with `iter_mut` writes, a proof knows nothing.
     for (i, agent) in agents.iter().enumerate() {
         put_power(&mut accounts[i], power_credit(agent), parts[i]);
     }

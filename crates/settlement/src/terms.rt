@@ -1,6 +1,6 @@
 //! Which contracts may stand in a book.
 ghost use Rattle.std.specs.Prelude.{◌≡◌, ◌≤◌, length};
-ghost use Rattle.settlement.specs.ContractFaults.{party_of, parties_of, in_book, contract_fits, place_fits, covers};
+ghost use Rattle.settlement.specs.ContractFaults.{PartiesKnown, party_of, parties_of, in_book, contract_fits, place_fits, covers};
 ghost use Rattle.settlement.specs.Sums.{all_of};
 
 use crate::agents::Agent;
@@ -25,10 +25,8 @@ fn is_in_book(agents: &[Agent], number: u32) -> bool
 
 /// The two parties to a contract, both agents of the book.
 pub(crate) fn parties(agents: &[Agent], contract: Contract) -> Parties
-    requires some_seller { 1 ≤ contract.seller }
-    requires seller_known { contract.seller ≤ length agents.now }
-    requires some_buyer { 1 ≤ contract.buyer }
-    requires buyer_known { contract.buyer ≤ length agents.now }
+    // Kept as one named fact: a contract's own type knows no book, so it cannot keep the fact itself.
+    requires { PartiesKnown (length agents.now) contract }
     ensures { result ≡ parties_of agents.now contract }
 {
     Parties {
