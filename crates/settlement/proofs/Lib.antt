@@ -1,6 +1,7 @@
 pub mod Checks
 pub mod Measured
 pub mod Sums
+pub mod Differences
 pub mod Sharing
 pub mod Bounds
 pub mod Together

@@ -1,5 +1,5 @@
 -- Contracts in a book: their parties, which of them may stand, and the faults of entering and cancelling one. Assumes nothing.
-use Rattle.std.specs.Prelude.{ℕ, ◌+◌, ◌-◌, Bool, true, not, ◌&&◌, ◌||◌, List, length, is_some, Some, None, Option, nat_le, nat_lt, slice_index_or}
+use Rattle.std.specs.Prelude.{ℕ, ◌+◌, ◌-◌, ◌≤◌, Bool, true, not, ◌&&◌, ◌||◌, List, length, is_some, Some, None, Option, nat_le, nat_lt, slice_index_or}
 use Rattle.std.specs.Option.{option_map}
 use Rattle.forms.specs.declared.Contract.{Contract}
 use Rattle.forms.specs.declared.Parties.{Parties}
@@ -24,6 +24,13 @@ parties_of agents c = record { seller = party_of (slice_index_or agents (c.selle
 -- an agent of the book, by number
 abbrev pub in_book : List Agent → ℕ → Bool
 in_book agents number = nat_le 1 number && nat_le number (length agents)
+
+-- both parties to a contract are agents of a book of so many
+pub record PartiesKnown (count : ℕ) (c : Contract) : Type 0 where
+  pub seller_from : 1 ≤ c.seller
+  pub seller_to : c.seller ≤ count
+  pub buyer_from : 1 ≤ c.buyer
+  pub buyer_to : c.buyer ≤ count
 
 -- a contract that may stand in a month of so many hours: its parties are agents of the book in roles that go together, its hours and figures
 -- are within their limits, and the form takes its terms

@@ -37,8 +37,8 @@ fn fill_weights<C: Carried>(carried: &C, weights: &mut [u32])
     requires { length weights.old ≡ C.agents carried.now }
     ensures { weights.new ≡ map (C.weight carried.now) (range_with_len 0 (C.agents carried.now)) }
 {
-    for i in 0..weights.len() {
-        weights[i] = carried.weight(i);
+    for (i, weight) in weights.iter_mut().enumerate() {
+        *weight = carried.weight(i);
     }
 }
 

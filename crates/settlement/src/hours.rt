@@ -103,6 +103,7 @@ impl MeasuredPosting<'_> {
         ensures { fresh.new ≡ map (λ i. entry_of (own_of self.now.agents.now self.now.price self.now.lines.now i)) (range_with_len 0 (length self.now.lines.now)) }
     {
         fill_parts(self, parts);
+        // Kept by index: of what a `zip` with `iter_mut` writes, a proof knows nothing.
         for (i, line) in self.lines.iter().enumerate() {
             fresh[i] = self.priced(line).entry(self.caused_excess(i), parts[i]);
         }

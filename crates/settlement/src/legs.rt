@@ -3,7 +3,7 @@ ghost use Rattle.std.specs.Prelude.{◌≡◌, ℕ, ◌+◌, ◌*◌, ◌<◌, �
 ghost use Rattle.std.specs.List.{range_with_len};
 ghost use Rattle.forms.specs.Meaning.{Balanced};
 ghost use Rattle.settlement.specs.Agents.{role_of};
-ghost use Rattle.settlement.specs.ContractFaults.{contract_fits, place_fits};
+ghost use Rattle.settlement.specs.ContractFaults.{PartiesKnown, contract_fits, place_fits};
 ghost use Rattle.settlement.specs.Holdings.{no_holding, contract_points, with_points, entry_of};
 ghost use Rattle.settlement.specs.Pool.{pool_of, distributed_by, distributors_withdrawn, facts_of, legs_of, leg_for, leg_in, contract_line, hour_of};
 ghost use Rattle.settlement.specs.Sums.{all_of};
@@ -49,10 +49,7 @@ fn put_leg(number: u32, points: i64, fresh: &mut [Entry])
 
 /// Puts the legs of a contract on the contract lines of its parties.
 fn put_legs(contract: Contract, legs: Legs, fresh: &mut [Entry])
-    requires some_seller { 1 ≤ contract.seller }
-    requires seller_known { contract.seller ≤ length fresh.old }
-    requires some_buyer { 1 ≤ contract.buyer }
-    requires buyer_known { contract.buyer ≤ length fresh.old }
+    requires known { PartiesKnown (length fresh.old) contract }
     requires balanced { Balanced legs }
     ensures { (i : ℕ) → i < length fresh.old → slice_index_or fresh.new i no_holding ≡ with_points (leg_for contract legs i) (slice_index_or fresh.old i no_holding) }
 {
@@ -86,10 +83,7 @@ struct HourPool<'a, F> {
 impl<F: ContractForm> HourPool<'_, F> {
     /// What a contract is settled by in the hour.
     fn facts(&self, contract: Contract) -> Facts
-        requires some_seller { 1 ≤ contract.seller }
-        requires seller_known { contract.seller ≤ length self.now.posting.lines.now }
-        requires some_buyer { 1 ≤ contract.buyer }
-        requires buyer_known { contract.buyer ≤ length self.now.posting.lines.now }
+        requires { PartiesKnown (length self.now.posting.lines.now) contract }
         ensures { result ≡ facts_of self.now.weekday self.now.posting.agents.now self.now.posting.stamp.hour self.now.posting.price self.now.posting.lines.now contract }
     {
         let seller = self.posting.lines[contract.seller as usize - 1];

@@ -21,4 +21,4 @@ pub use holdings::{Account, Entry};
 pub use lines::Line;
 pub use postings::{MeasuredPosting, check_hour, check_posting};
 pub use power::{charge_power, check_power};
-pub use terms::{does_cover, may_all_stand, may_stand};
+pub use terms::{Admission, does_cover};

@@ -2,12 +2,21 @@
 
 pub(crate) mod rules;
 
+use thiserror::Error;
+
 /// How an agent's energy of an hour came about.
 #[derive(Clone, Copy, PartialEq, Eq, Debug)]
 pub(crate) enum Class {
     Normal,
     Obligated,
     Forced,
+}
+
+/// A number that names no class.
+#[derive(Clone, Copy, PartialEq, Eq, Debug, Error)]
+#[error("no class of a line has the number {number}")]
+pub(crate) struct UnknownClass {
+    pub(crate) number: u32,
 }
 
 /// An agent's line of a posting as the host fills it in: raw figures, any at all. Energies are in kWh, the node factor in

@@ -35,10 +35,10 @@ pub fn check_hour(days: u32, hour: u32) -> Result<HourStamp, LineFault>
 }
 
 /// Refuses another number of lines than agents, or a price outside its limit.
-fn check_head(count: u32, price: u32, lines: &[Line]) -> Result<(), LineFault>
-    ensures { result_err result ≡ head_fault count price lines.now }
+fn check_head(agents: &[Agent], price: u32, lines: &[Line]) -> Result<(), LineFault>
+    ensures { result_err result ≡ head_fault (length agents.now) price lines.now }
 {
-    if lines.len() != count as usize || price > MOST_PRICE {
+    if lines.len() != agents.len() || price > MOST_PRICE {
         return Err(LineFault::OutsideLimit(0));
     }
     Ok(())
@@ -56,11 +56,12 @@ fn check_limits(lines: &[Line]) -> Result<(), LineFault>
 }
 
 /// Refuses a line that breaks the rule of its class.
-fn check_rules(count: u32, agents: &[Agent], lines: &[Line]) -> Result<(), LineFault>
+fn check_rules(agents: &[Agent], lines: &[Line]) -> Result<(), LineFault>
     requires few { length lines.now ≤ 64 }
     requires each_has_one { length lines.now ≡ length agents.now }
-    ensures { result_err result ≡ rule_fault count agents.now lines.now }
+    ensures { result_err result ≡ rule_fault (length agents.now) agents.now lines.now }
 {
+    let count = agents.len() as u32;
     let mut each = lines.iter().zip(agents);
     match each.position(|(line, agent)| !line.keeps_its_class(count, agent.known_role())) {
         Some(i) => Err(LineFault::BreaksRule(i as u32 + 1)),
@@ -74,12 +75,8 @@ fn energy_together(lines: &[Line]) -> (u64, u64)
     ensures injected { result.0 ≡ injected_together lines.now }
     ensures withdrawn { result.1 ≡ withdrawn_together lines.now }
 {
-    let mut injected = 0;
-    let mut withdrawn = 0;
-    for line in lines {
-        injected += line.injected as u64;
-        withdrawn += line.withdrawn as u64;
-    }
+    let injected = lines.iter().map(|line| u64::from(line.injected)).sum();
+    let withdrawn = lines.iter().map(|line| u64::from(line.withdrawn)).sum();
     (injected, withdrawn)
 }
 
@@ -95,28 +92,26 @@ fn check_together(lines: &[Line]) -> Result<(), LineFault>
     Ok(())
 }
 
-/// A posting whose own figures are in order, or the first fault of them, in a month of `days` days for `count` agents.
+/// A posting whose own figures are in order, or the first fault of them, in a month of `days` days.
 pub fn check_posting<'a>(
-    count: u32,
     days: u32,
     hour: u32,
     price: u32,
     lines: &'a [Line],
     agents: &'a [Agent],
 ) -> Result<MeasuredPosting<'a>, LineFault>
-    requires few_agents { count ≤ 64 }
+    requires few_agents { length agents.now ≤ 64 }
     requires few_days { days ≤ 31 }
-    requires agents_long { length agents.now ≡ count }
-    ensures fault { result_err result ≡ line_fault count (24 * days) agents.now hour price lines.now }
+    ensures fault { result_err result ≡ line_fault (length agents.now) (24 * days) agents.now hour price lines.now }
     ensures stamp { IfOk result (λ p. (p.stamp.hour ≡ hour) × (p.stamp.days ≡ days)) }
     ensures figures { IfOk result (λ p. (p.price ≡ price) × (p.lines.now ≡ lines.now) × (p.agents.now ≡ agents.now)) }
-    ensures long { OnOk result (length lines.now ≡ count) }
+    ensures long { OnOk result (length lines.now ≡ length agents.now) }
     ensures measured { OnOk result (Measured price lines.now) }
 {
     let stamp = check_hour(days, hour)?;
-    check_head(count, price, lines)?;
+    check_head(agents, price, lines)?;
     check_limits(lines)?;
-    check_rules(count, agents, lines)?;
+    check_rules(agents, lines)?;
     check_together(lines)?;
     Ok(MeasuredPosting {
         stamp,

@@ -78,18 +78,6 @@ pub fn check_power(agents: &[Agent], accounts: &[Entry]) -> Result<(), BookFault
     Ok(())
 }
 
-/// Writes the part of the power due that each agent carries.
-fn fill_power_parts(agents: &[Agent], accounts: &[Entry], parts: &mut [u64])
-    requires few { length agents.now ≤ 64 }
-    requires accounts_long { length accounts.now ≡ length agents.now }
-    requires within { sum_by (λ account. account.second.withdrawn) accounts.now ≤ 2976000000 }
-    requires parts_long { length parts.old ≡ length agents.now }
-    ensures value { parts.new ≡ parts_of (power_due agents.now) (power_weights agents.now (withdrawn_on accounts.now)) }
-    ensures bound { power_due agents.now ≤ 1000000000000000000 }
-{
-    fill_parts(&Month { agents, accounts }, parts);
-}
-
 /// A credit less a debit, on the power line.
 fn power_points(credit: u64, debit: u64) -> Entry
     requires credit_within { credit ≤ 1000000000000000000 }
@@ -124,6 +112,7 @@ fn charge_parts(agents: &[Agent], parts: &[u64], accounts: &mut [Entry])
     requires due_within { power_due agents.now ≤ 1000000000000000000 }
     ensures { accounts.new ≡ map (λ i. holding_joined (slice_index_or accounts.old i no_holding) (power_points (power_line agents.now (withdrawn_on accounts.old) i))) (range_with_len 0 (length accounts.old)) }
 {
+    // Kept by index: of what a `zip` with `iter_mut` writes, a proof knows nothing.
     for (i, agent) in agents.iter().enumerate() {
         put_power(&mut accounts[i], power_credit(agent), parts[i]);
     }
@@ -138,6 +127,6 @@ pub fn charge_power(agents: &[Agent], accounts: &mut [Entry])
 {
     let mut parts = [0u64; 64];
     let parts = &mut parts[..agents.len()];
-    fill_power_parts(agents, accounts, parts);
+    fill_parts(&Month { agents, accounts }, parts);
     charge_parts(agents, parts, accounts);
 }

@@ -1,6 +1,6 @@
 //! Which contracts may stand in a book.
 ghost use Rattle.std.specs.Prelude.{◌≡◌, ◌≤◌, length};
-ghost use Rattle.settlement.specs.ContractFaults.{party_of, parties_of, in_book, contract_fits, place_fits, covers};
+ghost use Rattle.settlement.specs.ContractFaults.{PartiesKnown, party_of, parties_of, in_book, contract_fits, place_fits, covers};
 ghost use Rattle.settlement.specs.Sums.{all_of};
 
 use crate::agents::Agent;
@@ -25,10 +25,8 @@ fn is_in_book(agents: &[Agent], number: u32) -> bool
 
 /// The two parties to a contract, both agents of the book.
 pub(crate) fn parties(agents: &[Agent], contract: Contract) -> Parties
-    requires some_seller { 1 ≤ contract.seller }
-    requires seller_known { contract.seller ≤ length agents.now }
-    requires some_buyer { 1 ≤ contract.buyer }
-    requires buyer_known { contract.buyer ≤ length agents.now }
+    // Kept as one named fact: a contract's own type knows no book, so it cannot keep the fact itself.
+    requires { PartiesKnown (length agents.now) contract }
     ensures { result ≡ parties_of agents.now contract }
 {
     Parties {
@@ -37,52 +35,45 @@ pub(crate) fn parties(agents: &[Agent], contract: Contract) -> Parties
     }
 }
 
-/// Whether a contract may stand in a month of so many hours: by its parties, its hours and figures, and the form's terms.
-pub fn may_stand<F: ContractForm>(
-    form: &F,
-    hours: u32,
-    agents: &[Agent],
-    contract: Contract,
-) -> bool
-    ensures { result ≡ contract_fits (F.meaning form.now) hours agents.now contract }
-{
-    if !is_in_book(agents, contract.seller) || !is_in_book(agents, contract.buyer) {
-        return false;
-    }
-    if contract.last >= hours {
-        return false;
-    }
-    let parties = parties(agents, contract);
-    is_valid(contract, parties) && form.takes(contract, parties)
+/// What decides which contracts may stand: the form that they are asked of, the hours of the month, and the agents.
+#[derive(Drop)]
+pub struct Admission<'a, F> {
+    pub form: &'a F,
+    pub hours: u32,
+    pub agents: &'a [Agent],
 }
 
-/// Whether what is in a contract place may stand there.
-fn is_place_fit<F: ContractForm>(
-    form: &F,
-    hours: u32,
-    agents: &[Agent],
-    place: &Option<Contract>,
-) -> bool
-    ensures { result ≡ place_fits (F.meaning form.now) hours agents.now place.now }
-{
-    match place {
-        Some(contract) => may_stand(form, hours, agents, *contract),
-        None => true,
+impl<F: ContractForm> Admission<'_, F> {
+    /// Whether a contract may stand: by its parties, its hours and figures, and the form's terms.
+    pub fn may_stand(&self, contract: Contract) -> bool
+        ensures { result ≡ contract_fits (F.meaning self.now.form.now) self.now.hours self.now.agents.now contract }
+    {
+        if !is_in_book(self.agents, contract.seller) || !is_in_book(self.agents, contract.buyer) {
+            return false;
+        }
+        if contract.last >= self.hours {
+            return false;
+        }
+        let parties = parties(self.agents, contract);
+        is_valid(contract, parties) && self.form.takes(contract, parties)
     }
-}
 
-/// Whether what is in each contract place may stand there.
-pub fn may_all_stand<F: ContractForm>(
-    form: &F,
-    hours: u32,
-    agents: &[Agent],
-    contracts: &[Option<Contract>],
-) -> bool
-    ensures { result ≡ all_of (place_fits (F.meaning form.now) hours agents.now) contracts.now }
-{
-    contracts
-        .iter()
-        .all(|place| is_place_fit(form, hours, agents, place))
+    /// Whether what is in a contract place may stand there.
+    fn is_place_fit(&self, place: &Option<Contract>) -> bool
+        ensures { result ≡ place_fits (F.meaning self.now.form.now) self.now.hours self.now.agents.now place.now }
+    {
+        match place {
+            Some(contract) => self.may_stand(*contract),
+            None => true,
+        }
+    }
+
+    /// Whether what is in each contract place may stand there.
+    pub fn may_all_stand(&self, contracts: &[Option<Contract>]) -> bool
+        ensures { result ≡ all_of (place_fits (F.meaning self.now.form.now) self.now.hours self.now.agents.now) contracts.now }
+    {
+        contracts.iter().all(|place| self.is_place_fit(place))
+    }
 }
 
 /// Whether a contract covers an hour.

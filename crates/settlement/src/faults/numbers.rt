@@ -72,6 +72,7 @@ impl BookFault {
 }
 
 /// A posting's own fault is carried whole.
+// Kept by hand: what a derive writes for `#[from]` has no contract, and `check_posting`'s callers name the error that `?` makes.
 impl From<LineFault> for BookFault {
     ghost from_gives = { λ fault r. r ≡ Posting fault };
 

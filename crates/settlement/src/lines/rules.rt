@@ -1,22 +1,32 @@
 //! What a line's figures say, and the rules that they keep.
-ghost use Rattle.std.specs.Prelude.{◌≡◌};
+ghost use Rattle.std.specs.Prelude.{◌≡◌, ok_or};
 ghost use Rattle.settlement.specs.Lines.{class_of, line_within, must_run, line_kept};
 
 use crate::agents::Role;
-use crate::lines::{Class, Line};
+use crate::lines::{Class, Line, UnknownClass};
 use valuation::{LEAST_FACTOR, MOST_ENERGY, MOST_FACTOR, MOST_PRICE};
+
+impl TryFrom<u32> for Class {
+    type Error = UnknownClass;
+
+    ghost try_from_gives = { λ number result. result ≡ ok_or (class_of number) (record { number = number }) };
+
+    fn try_from(number: u32) -> Result<Class, UnknownClass> {
+        match number {
+            1 => Ok(Class::Normal),
+            2 => Ok(Class::Obligated),
+            3 => Ok(Class::Forced),
+            _ => Err(UnknownClass { number }),
+        }
+    }
+}
 
 impl Line {
     /// The class that its number names, if any.
     pub(crate) fn known_class(&self) -> Option<Class>
         ensures { result ≡ class_of self.now.class }
     {
-        match self.class {
-            1 => Some(Class::Normal),
-            2 => Some(Class::Obligated),
-            3 => Some(Class::Forced),
-            _ => None,
-        }
+        Class::try_from(self.class).ok()
     }
 
     /// Whether energies, factor and cost are within their limits.

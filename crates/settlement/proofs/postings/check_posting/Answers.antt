@@ -1,4 +1,4 @@
-use Rattle.std.proofs.Common.{sym, ◌∙◌}
+use Rattle.std.proofs.Common.{length, sym}
 use Rattle.settlement.proofs.Measured.{head_long, measured}
 use Rattle.settlement.proofs.postings.check_posting.Goals as goal
 
@@ -6,6 +6,6 @@ pub invariant_of-result : goal.invariant_of-result
 invariant_of-result c =
     let head = c.in_ok-check_head.ensures in
     record {
-      measured = measured c.args.count c.args.price c.args.lines.now c.requires.few_agents head c.in_ok-check_limits.ensures c.in_ok-check_together.ensures;
-      agents_long = c.requires.agents_long ∙ sym (head_long c.args.count c.args.price c.args.lines.now head);
+      measured = measured (length c.args.agents.now) c.args.price c.args.lines.now c.requires.few_agents head c.in_ok-check_limits.ensures c.in_ok-check_together.ensures;
+      agents_long = sym (head_long (length c.args.agents.now) c.args.price c.args.lines.now head);
     }

@@ -33,14 +33,14 @@ pub returns-in-Some : goal.returns-in-Some
 returns-in-Some c =
     let lines = c.args.lines.now in
     let agents = c.args.agents.now in
-    let found : c.position.result ≡ position (broken c.args.count) (zip lines agents) =
-    position_from_yields_List (broken c.args.count) c.position.new.self _ c.position.result c.position.ensures.ran (YieldsList-from_zip (YieldsList-from_slice lines cc) (YieldsList-from_slice agents cc)) (λ x b q k. search (rules, tests)) in
-    ap (option_map (λ i. BreaksRule (i + 1))) (sym c.in-Some.is ∙ found ∙ first_broken c.args.count agents lines c.requires.each_has_one)
+    let found : c.position.result ≡ position (broken (length c.args.agents.now)) (zip lines agents) =
+    position_from_yields_List (broken (length c.args.agents.now)) c.position.new.self _ c.position.result c.position.ensures.ran (YieldsList-from_zip (YieldsList-from_slice lines cc) (YieldsList-from_slice agents cc)) (λ x b q k. search (rules, tests)) in
+    ap (option_map (λ i. BreaksRule (i + 1))) (sym c.in-Some.is ∙ found ∙ first_broken (length c.args.agents.now) agents lines c.requires.each_has_one)
 
 pub returns-in-None : goal.returns-in-None
 returns-in-None c =
     let lines = c.args.lines.now in
     let agents = c.args.agents.now in
-    let found : c.position.result ≡ position (broken c.args.count) (zip lines agents) =
-    position_from_yields_List (broken c.args.count) c.position.new.self _ c.position.result c.position.ensures.ran (YieldsList-from_zip (YieldsList-from_slice lines cc) (YieldsList-from_slice agents cc)) (λ x b q k. search (rules, tests)) in
-    ap (option_map (λ i. BreaksRule (i + 1))) (sym c.in-None.is ∙ found ∙ first_broken c.args.count agents lines c.requires.each_has_one)
+    let found : c.position.result ≡ position (broken (length c.args.agents.now)) (zip lines agents) =
+    position_from_yields_List (broken (length c.args.agents.now)) c.position.new.self _ c.position.result c.position.ensures.ran (YieldsList-from_zip (YieldsList-from_slice lines cc) (YieldsList-from_slice agents cc)) (λ x b q k. search (rules, tests)) in
+    ap (option_map (λ i. BreaksRule (i + 1))) (sym c.in-None.is ∙ found ∙ first_broken (length c.args.agents.now) agents lines c.requires.each_has_one)

@@ -1,14 +1,15 @@
-use Rattle.std.proofs.Common.{arith, rules}
-use Rattle.settlement.specs.Hour.{line_at}
-use Rattle.settlement.proofs.Sums.{sum_to_more}
+use Rattle.std.proofs.Common.{◌≡◌, sum_by, ◌∙◌, rules}
+use Rattle.settlement.specs.declared.lines.Line.{Line}
+use Rattle.settlement.specs.Lines.{no_line}
+use Rattle.settlement.proofs.Sums.{sum_by_list}
 use Rattle.settlement.proofs.postings.energy_together.Goals as goal
 
-pub loop-line-preserved : goal.loop-line-preserved
-loop-line-preserved c =
+pub returns : goal.returns
+returns c =
     let lines = c.args.lines.now in
-    let i = c.loop-line.line-index in (
-      omega (arith, sum_to_more i (λ k. (line_at lines k).injected), c.loop-line.invariant.0),
-      omega (arith, sum_to_more i (λ k. (line_at lines k).withdrawn), c.loop-line.invariant.1),
-      search rules,
-      search rules,
-    )
+    let injected : c.sum-injected.result ≡ sum_by (λ (l : Line). l.injected) lines = search rules in
+    let withdrawn : c.sum-withdrawn.result ≡ sum_by (λ (l : Line). l.withdrawn) lines = search rules in
+    record {
+      injected = injected ∙ sum_by_list (λ (l : Line). l.injected) lines no_line;
+      withdrawn = withdrawn ∙ sum_by_list (λ (l : Line). l.withdrawn) lines no_line;
+    }

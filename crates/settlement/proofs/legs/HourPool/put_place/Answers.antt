@@ -15,10 +15,12 @@ put_legs-requires g c =
     subst (λ (place : Option Contract). place_fits form (24 * c.args.self.now.posting.stamp.days) c.args.self.now.posting.agents.now place ≡ true) c.in-Some.is c.requires.fits in
     let known = fitting form (24 * c.args.self.now.posting.stamp.days) c.args.self.now.posting.agents.now c.in-Some.contract fits in
     record {
-      some_seller = known.seller_from;
-      seller_known = omega (arith, known.seller_to, c.args.self.now.posting.agents_long, c.requires.fresh_long);
-      some_buyer = known.buyer_from;
-      buyer_known = omega (arith, known.buyer_to, c.args.self.now.posting.agents_long, c.requires.fresh_long);
+      known = record {
+        seller_from = known.seller_from;
+        seller_to = omega (arith, known.seller_to, c.args.self.now.posting.agents_long, c.requires.fresh_long);
+        buyer_from = known.buyer_from;
+        buyer_to = omega (arith, known.buyer_to, c.args.self.now.posting.agents_long, c.requires.fresh_long);
+      };
       balanced = c.legs_of.ensures.balanced;
     }
 
