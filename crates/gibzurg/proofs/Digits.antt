@@ -12,7 +12,7 @@ reading = numerals_by_fold _ (search rules) read_on (search rules)
 
 kept : {E : Type 0} (r : Result ℕ E) (b : Bool) (P : Type 0) (v : ℕ) → OkIff r P v → Decides b P → result_ok r ≡ cond b (Some v) None
 kept (Ok x) true P v h d = ap Some h.1
-kept (Ok x) false P v h d = let z : false ≡ true = d.1 h.0 in absurd (let y : ◌≡◌ {A = ℕ} 0 1 = cc in omega arith)
+kept (Ok x) false P v h d = let z : false ≡ true = d.1 h.0 in cc
 kept (Err e) true P v h d = absurd (h (d.0 refl))
 kept (Err e) false P v h d = refl
 

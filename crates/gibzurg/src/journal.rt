@@ -43,93 +43,65 @@ pub(crate) fn goes_on(line: &str) -> bool {
 pub(crate) fn read(line: &str) -> Result<Option<Entry>, Expected> {
     let mut fields = Fields::new(line);
     match fields.word() {
-        Some(first) if !first.starts_with('#') => entry_of(first, fields).map(Some),
+        Some(first) if !first.starts_with('#') => {
+            let entry = entry_of(first, &mut fields)?;
+            fields.end()?;
+            Ok(Some(entry))
+        }
         _ => Ok(None),
     }
 }
 
 /// Reads what stands after a line's first word.
-fn entry_of(first: &str, fields: Fields) -> Result<Entry, Expected> {
+fn entry_of(first: &str, fields: &mut Fields) -> Result<Entry, Expected> {
     match first {
-        "open" => opening(fields),
-        "agent" => agent(fields),
-        "post" => posting(fields),
-        "line" => posting_line(fields),
-        "withdraw" => withdrawal(fields),
-        "statement" => statement(fields),
-        "statements" => statements(fields),
-        _ => Err(Expected::Call),
+        "agent" => Ok(Entry::Agent(fields.agent()?, agent(fields)?)),
+        "line" => Ok(Entry::Line(posting_line(fields)?)),
+        _ => Ok(Entry::Call(call_named(first, fields)?)),
     }
 }
 
-fn opening(mut fields: Fields) -> Result<Entry, Expected> {
-    let agents = fields.figure("agents")?;
-    let days = fields.figure("days")?;
-    let weekday = fields.choice(Choice::Weekday)?;
-    fields.end()?;
-    Ok(Entry::Call(Request::Open(MonthFigures {
-        agents,
-        days,
-        weekday,
-    })))
+/// The figures of an agent, after its number.
+fn agent(fields: &mut Fields) -> Result<Agent, Expected> {
+    Ok(Agent {
+        role: fields.choice(Choice::Role)?,
+        capacity: fields.figure("capacity")?,
+        power: fields.figure("power")?,
+    })
 }
 
-fn agent(mut fields: Fields) -> Result<Entry, Expected> {
-    let number = fields.agent()?;
-    let role = fields.choice(Choice::Role)?;
-    let capacity = fields.figure("capacity")?;
-    let power = fields.figure("power")?;
-    fields.end()?;
-    Ok(Entry::Agent(
-        number,
-        Agent {
-            role,
-            capacity,
-            power,
+/// The figures of a posting's line.
+fn posting_line(fields: &mut Fields) -> Result<Line, Expected> {
+    Ok(Line {
+        class: fields.choice(Choice::Class)?,
+        cause: fields.figure("cause")?,
+        injected: fields.figure("injected")?,
+        withdrawn: fields.figure("withdrawn")?,
+        gross: fields.figure("gross")?,
+        factor: fields.figure("factor")?,
+        cost: fields.figure("cost")?,
+    })
+}
+
+/// The call that a line's first word names.
+fn call_named(first: &str, fields: &mut Fields) -> Result<Request, Expected> {
+    Ok(match first {
+        "open" => Request::Open(MonthFigures {
+            agents: fields.figure("agents")?,
+            days: fields.figure("days")?,
+            weekday: fields.choice(Choice::Weekday)?,
+        }),
+        "post" => Request::Post {
+            hour: fields.figure("hour")?,
+            price: fields.figure("price")?,
         },
-    ))
-}
-
-fn posting(mut fields: Fields) -> Result<Entry, Expected> {
-    let hour = fields.figure("hour")?;
-    let price = fields.figure("price")?;
-    fields.end()?;
-    Ok(Entry::Call(Request::Post { hour, price }))
-}
-
-fn posting_line(mut fields: Fields) -> Result<Entry, Expected> {
-    let class = fields.choice(Choice::Class)?;
-    let cause = fields.figure("cause")?;
-    let injected = fields.figure("injected")?;
-    let withdrawn = fields.figure("withdrawn")?;
-    let gross = fields.figure("gross")?;
-    let factor = fields.figure("factor")?;
-    let cost = fields.figure("cost")?;
-    fields.end()?;
-    Ok(Entry::Line(Line {
-        class,
-        cause,
-        injected,
-        withdrawn,
-        gross,
-        factor,
-        cost,
-    }))
-}
-
-fn withdrawal(mut fields: Fields) -> Result<Entry, Expected> {
-    let hour = fields.figure("hour")?;
-    fields.end()?;
-    Ok(Entry::Call(Request::Withdraw { hour }))
-}
-
-fn statement(mut fields: Fields) -> Result<Entry, Expected> {
-    let agent = fields.agent()?;
-    fields.end()?;
-    Ok(Entry::Call(Request::Statement { agent }))
-}
-
-fn statements(fields: Fields) -> Result<Entry, Expected> {
-    fields.end()?;
-    Ok(Entry::Call(Request::Statements))
+        "withdraw" => Request::Withdraw {
+            hour: fields.figure("hour")?,
+        },
+        "statement" => Request::Statement {
+            agent: fields.agent()?,
+        },
+        "statements" => Request::Statements,
+        _ => return Err(Expected::Call),
+    })
 }

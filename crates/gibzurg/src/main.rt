@@ -50,12 +50,13 @@ fn run(rt: &HostRuntime) -> Result<(), Trouble> {
 
 /// The text of a file, or of standard input where the path is `-`. A byte that is no text becomes a mark that no word has.
 fn text(rt: &HostRuntime, path: &str) -> Result<String, Trouble> {
-    let mut bytes = Vec::new(rt.alloc());
-    if path == "-" {
+    let bytes = if path == "-" {
+        let mut bytes = Vec::new(rt.alloc());
         rt.stdin().read_to_end(&mut bytes)?;
+        bytes
     } else {
-        bytes = fs::read(rt, path)?;
-    }
+        fs::read(rt, path)?
+    };
     Ok(String::from_utf8_lossy(rt.alloc(), bytes.as_slice())?)
 }
 

@@ -7,7 +7,6 @@ use crate::trouble::Trouble;
 use crate::words::{Heading, Reply, Totals, Undone};
 use audit::Posting;
 use book::{Agent, BookFault, Line};
-use std::alloc::Global;
 use std::fmt::Display;
 
 /// The journal line that is answered, and where the answers are printed.
@@ -20,14 +19,12 @@ struct Voice<'a> {
 impl<'a> Voice<'a> {
     /// Says how a call went.
     fn say(self, heading: Heading, outcome: Result<(), Undone>) -> Result<(), Trouble> {
-        let line = self.line;
-        Ok(
-            self.rt.println(Reply {
-                line,
-                heading,
-                outcome,
-            })?,
-        )
+        let reply = Reply {
+            line: self.line,
+            heading,
+            outcome,
+        };
+        Ok(self.rt.println(reply)?)
     }
 
     /// Prints what the book gave, or says that it refused.
@@ -59,7 +56,6 @@ enum Begun<'a> {
 
 /// A run of one journal, with the book that calls are made on.
 struct Session<'a> {
-    heap: Global,
     begun: Option<Begun<'a>>,
     book: Option<Ledger>,
 }
@@ -67,16 +63,11 @@ struct Session<'a> {
 /// Runs a journal, and prints the answers.
 pub(crate) fn settle(rt: &HostRuntime, text: &str) -> Result<(), Trouble> {
     let mut session = Session {
-        heap: rt.alloc(),
         begun: None,
         book: None,
     };
     let outcome = session.run(rt, text);
-    let Session {
-        heap: _,
-        begun: _,
-        book,
-    } = session;
+    let Session { begun: _, book } = session;
     retire(book);
     outcome
 }
@@ -91,9 +82,7 @@ fn retire(book: Option<Ledger>) {
 impl<'a> Session<'a> {
     /// Runs every line, and the journal's end.
     fn run(&mut self, rt: &'a HostRuntime, text: &str) -> Result<(), Trouble> {
-        let lines = text.split_terminator('\n');
-        for (before, text) in lines.enumerate() {
-            let line = before.saturating_add(1);
+        for (line, text) in (1..).zip(text.split_terminator('\n')) {
             self.hear(Voice { rt, line }, text)?;
         }
         let line = text.split_terminator('\n').count().saturating_add(1);
@@ -129,7 +118,7 @@ impl<'a> Session<'a> {
             Request::Open(figures) => {
                 let opening = Opening {
                     figures,
-                    agents: Vec::new(self.heap),
+                    agents: Vec::new(voice.rt.alloc()),
                 };
                 self.open_if_complete(voice, opening)
             }
@@ -137,7 +126,7 @@ impl<'a> Session<'a> {
                 let posting = Posting {
                     hour,
                     price,
-                    lines: Vec::new(self.heap),
+                    lines: Vec::new(voice.rt.alloc()),
                 };
                 self.begun = Some(Begun::Posting(voice, posting));
                 Ok(())
@@ -195,7 +184,7 @@ impl<'a> Session<'a> {
     /// Opens a book in the place of the one before.
     fn open(&mut self, voice: Voice, opening: Opening) -> Result<(), Trouble> {
         retire(self.book.take());
-        let outcome = match Ledger::open(self.heap, opening)? {
+        let outcome = match Ledger::open(voice.rt.alloc(), opening)? {
             Ok(ledger) => {
                 retire(self.book.replace(ledger));
                 Ok(())

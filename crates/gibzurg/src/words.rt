@@ -1,7 +1,7 @@
 //! What the program says of the calls that it makes.
 use crate::choices::ROLES;
 use crate::dollars::Dollars;
-use book::{BookFault, LineFault, Statement};
+use book::{BookFault, Statement};
 use std::fmt;
 use thiserror::Error;
 
@@ -31,7 +31,7 @@ impl fmt::Display for Heading {
 #[derive(Clone, Copy, Debug, Error)]
 pub(crate) enum Undone {
     /// The book refused it.
-    #[error("refused, fault {} at {}, {}", .0.number(), .0.place(), meaning(*.0))]
+    #[error("refused, fault {} at {}, {}", .0.number(), .0.place(), .0)]
     Refused(BookFault),
     /// There was no book to make the call on.
     #[error("skipped, no book is open")]
@@ -57,31 +57,6 @@ impl fmt::Display for Reply {
             Ok(()) => write!(f, "Line {line}, {heading}: accepted."),
             Err(undone) => write!(f, "Line {line}, {heading}: {undone}."),
         }
-    }
-}
-
-/// Plain words for a fault.
-fn meaning(fault: BookFault) -> &'static str {
-    match fault {
-        BookFault::WrongSize => "memory of the wrong size",
-        BookFault::StoredOutside => "a stored figure is outside its limit",
-        BookFault::OutsideBook =>
-            "a figure of the opening or the statement's agent is outside the book's limits",
-        BookFault::Posting(posting) => posting_meaning(posting),
-        BookFault::NoCarrier => "obligated excess and no withdrawn energy carries it",
-        BookFault::FreeHour(_) => "the hour is free",
-    }
-}
-
-/// Plain words for a fault of a posting's own figures.
-fn posting_meaning(fault: LineFault) -> &'static str {
-    match fault {
-        LineFault::HourOutside(_) => "the hour is outside the month",
-        LineFault::OutsideLimit(_) =>
-            "the line count, the price or a figure of the line is outside its limit",
-        LineFault::BreaksRule(_) => "the line breaks a rule on class, cause, gross or cost",
-        LineFault::TooMuchTogether =>
-            "all injected or all withdrawn energy together is above the limit",
     }
 }
 

@@ -71,6 +71,6 @@ impl OpenMonth {
         ensures figures { IfOk result (λ p. (p.price ≡ price) × (p.lines.now ≡ lines.now) × (p.agents.now ≡ agents.now)) }
         ensures long { OnOk result (length lines.now ≡ self.now.agents) }
     {
-        check_posting(self.agents, self.days, hour, price, lines, agents)
+        check_posting(self.days, hour, price, lines, agents)
     }
 }
