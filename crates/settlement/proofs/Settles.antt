@@ -8,7 +8,8 @@ use Rattle.forms.specs.Terms.{Valid, valid_terms, parties_fit, numbers_fit, figu
 use Rattle.valuation.specs.Limits.{most_energy, most_price}
 use Rattle.settlement.specs.declared.agents.Agent.{Agent}
 use Rattle.settlement.specs.declared.lines.Line.{Line}
-use Rattle.settlement.specs.Agents.{role_of, no_agent}
+use Rattle.forms.specs.Roles.{role_of}
+use Rattle.settlement.specs.Agents.{no_agent}
 use Rattle.settlement.specs.ContractFaults.{parties_of, in_book, contract_fits}
 use Rattle.settlement.specs.Hour.{line_at, role_at}
 use Rattle.settlement.specs.Pool.{distributed_by, distributors_withdrawn, facts_of}

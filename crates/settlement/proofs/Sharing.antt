@@ -1,8 +1,8 @@
 -- The weights of an hour's sharing, and its parts. Assumes nothing.
 use Rattle.std.proofs.Common.{ℕ, ◌≤◌, List, length, Some, None, sum, Option, arith}
 use Rattle.settlement.specs.declared.agents.Agent.{Agent}
-use Rattle.settlement.specs.declared.agents.Role.{Role}
-use Rattle.settlement.specs.declared.agents.Role.TheVariants.{Generator, Distributor, Consumer}
+use Rattle.forms.specs.declared.roles.Role.{Role}
+use Rattle.forms.specs.declared.roles.Role.TheVariants.{Generator, Distributor, Consumer}
 use Rattle.settlement.specs.declared.lines.Line.{Line}
 use Rattle.settlement.specs.Hour.{line_at, role_at, weight_for, weight_at, weights_of}
 use Rattle.settlement.specs.PostingFaults.{withdrawn_together}

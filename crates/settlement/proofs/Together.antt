@@ -6,7 +6,7 @@ use Rattle.std.proofs.lemmas.Bool.{false≢true, and_parts, and_cases, leb-true,
 use Rattle.valuation.specs.Sharing.{part_of}
 use Rattle.valuation.proofs.Sharing.{sum-parts_of, part_of_no_points}
 use Rattle.settlement.specs.declared.agents.Agent.{Agent}
-use Rattle.settlement.specs.declared.agents.Role.{Role}
+use Rattle.forms.specs.declared.roles.Role.{Role}
 use Rattle.settlement.specs.declared.lines.Class.{Class}
 use Rattle.settlement.specs.declared.lines.Class.TheVariants.{Normal, Obligated, Forced}
 use Rattle.settlement.specs.declared.lines.Line.{Line}

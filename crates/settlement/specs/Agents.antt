@@ -1,24 +1,8 @@
 -- The agents of a book. Assumes nothing.
-use Rattle.std.specs.Prelude.{ℕ, Bool, true, false, cond, ◌&&◌, ◌||◌, Some, None, Option, ◌==◌, nat_le}
+use Rattle.std.specs.Prelude.{ℕ, Bool, false, ◌&&◌, ◌||◌, Some, None, Option, ◌==◌, nat_le}
+use Rattle.forms.specs.declared.roles.Role.{Role}
+use Rattle.forms.specs.Roles.{role_of, generates}
 use Rattle.settlement.specs.declared.agents.Agent.{Agent}
-use Rattle.settlement.specs.declared.agents.Role.{Role}
-use Rattle.settlement.specs.declared.agents.Role.TheVariants.{Generator, Distributor, Consumer}
-
--- 1 is a generator, 2 a distributor, 3 a large consumer
-abbrev pub role_of : ℕ → Option Role
-role_of code = cond (code == 1) (Some Generator) (cond (code == 2) (Some Distributor) (cond (code == 3) (Some Consumer) None))
-
--- a generator may be obligated or forced to run, and is paid for power
-abbrev pub generates : Role → Bool
-generates Generator = true
-generates Distributor = false
-generates Consumer = false
-
--- distributors and large consumers carry what the pool pays
-abbrev pub carries : Role → Bool
-carries Generator = false
-carries Distributor = true
-carries Consumer = true
 
 -- a capacity of 0 to 4,000,000 kWh in an hour, a remunerable power of 0 to 1,000,000 kW, which is 0 unless it generates
 abbrev pub fits_role : Agent → Option Role → Bool

@@ -5,11 +5,12 @@ use Rattle.valuation.specs.Amounts.{amount_of}
 use Rattle.valuation.specs.Excess.{excess_of}
 use Rattle.valuation.specs.Sharing.{part_of}
 use Rattle.settlement.specs.declared.agents.Agent.{Agent}
-use Rattle.settlement.specs.declared.agents.Role.{Role}
+use Rattle.forms.specs.declared.roles.Role.{Role}
 use Rattle.settlement.specs.declared.lines.Class.{Class}
 use Rattle.settlement.specs.declared.lines.Class.TheVariants.{Normal, Obligated, Forced}
 use Rattle.settlement.specs.declared.lines.Line.{Line}
-use Rattle.settlement.specs.Agents.{role_of, carries, no_agent}
+use Rattle.forms.specs.Roles.{role_of, carries}
+use Rattle.settlement.specs.Agents.{no_agent}
 use Rattle.settlement.specs.Lines.{class_of, no_line}
 use Rattle.settlement.specs.Sums.{sum_to}
 

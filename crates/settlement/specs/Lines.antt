@@ -1,10 +1,10 @@
 -- The lines of a posting: their limits and their rules. Assumes nothing.
 use Rattle.std.specs.Prelude.{ℕ, Bool, false, cond, ◌&&◌, Some, None, Option, ◌==◌, nat_le}
-use Rattle.settlement.specs.declared.agents.Role.{Role}
+use Rattle.forms.specs.declared.roles.Role.{Role}
 use Rattle.settlement.specs.declared.lines.Class.{Class}
 use Rattle.settlement.specs.declared.lines.Class.TheVariants.{Normal, Obligated, Forced}
 use Rattle.settlement.specs.declared.lines.Line.{Line}
-use Rattle.settlement.specs.Agents.{generates}
+use Rattle.forms.specs.Roles.{generates}
 
 -- 1 is normal, 2 obligated, 3 forced
 abbrev pub class_of : ℕ → Option Class

@@ -7,8 +7,8 @@ use Rattle.forms.specs.declared.Facts.{Facts}
 use Rattle.forms.specs.declared.Legs.{Legs}
 use Rattle.forms.specs.Meaning.{Meaning, hour_legs}
 use Rattle.settlement.specs.declared.agents.Agent.{Agent}
-use Rattle.settlement.specs.declared.agents.Role.{Role}
-use Rattle.settlement.specs.declared.agents.Role.TheVariants.{Generator, Distributor, Consumer}
+use Rattle.forms.specs.declared.roles.Role.{Role}
+use Rattle.forms.specs.declared.roles.Role.TheVariants.{Generator, Distributor, Consumer}
 use Rattle.settlement.specs.declared.lines.Line.{Line}
 use Rattle.settlement.specs.ContractFaults.{parties_of, covers}
 use Rattle.settlement.specs.Hour.{line_at, role_at, caused_sum, carried_by, Figures, figures_with}

@@ -2,7 +2,7 @@
 ghost use Rattle.std.specs.Prelude.{◌≡◌, ◌<◌, ◌≤◌, true, map, length};
 ghost use Rattle.std.specs.List.{range_with_len};
 ghost use Rattle.std.specs.Result.{result_err};
-ghost use Rattle.settlement.specs.Agents.{role_of};
+ghost use Rattle.forms.specs.Roles.{role_of};
 ghost use Rattle.settlement.specs.Faults.{met_if};
 ghost use Rattle.settlement.specs.Holdings.{entry_of};
 ghost use Rattle.settlement.specs.Hour.{obligated_sum, caused_sum, weight_for, weight_at, own_of};

@@ -2,18 +2,18 @@
 ghost use Rattle.std.specs.Prelude.{◌≡◌, ℕ, ◌+◌, ◌*◌, ◌<◌, ◌≤◌, true, map, length, pos, if◌then◌else◌, nat_eq, slice_index_or};
 ghost use Rattle.std.specs.List.{range_with_len};
 ghost use Rattle.forms.specs.Meaning.{Balanced};
-ghost use Rattle.settlement.specs.Agents.{role_of};
+ghost use Rattle.forms.specs.Roles.{role_of};
 ghost use Rattle.settlement.specs.ContractFaults.{PartiesKnown, contract_fits, place_fits};
 ghost use Rattle.settlement.specs.Holdings.{no_holding, contract_points, with_points, entry_of};
 ghost use Rattle.settlement.specs.Pool.{pool_of, distributed_by, distributors_withdrawn, facts_of, legs_of, leg_for, leg_in, contract_line, hour_of};
 ghost use Rattle.settlement.specs.Sums.{all_of};
 
-use crate::agents::{Agent, Role};
+use crate::agents::Agent;
 use crate::holdings::Entry;
 use crate::postings::MeasuredPosting;
 use crate::terms::{does_cover, parties};
 use calendar::Weekday;
-use forms::{Contract, ContractForm, ContractHour, Facts, Legs, settle_hour};
+use forms::{Contract, ContractForm, ContractHour, Facts, Legs, Role, settle_hour};
 use tally::{Energy, Money, Pair, Tally};
 
 /// An entry with points on its contract line alone.

@@ -8,7 +8,8 @@ use Rattle.valuation.proofs.Amounts.{amount_of_le}
 use Rattle.valuation.proofs.Sharing.{part_of_le}
 use Rattle.settlement.specs.declared.agents.Agent.{Agent}
 use Rattle.settlement.specs.declared.lines.Line.{Line}
-use Rattle.settlement.specs.Agents.{role_of, fits_role, agent_fits, no_agent}
+use Rattle.forms.specs.Roles.{role_of}
+use Rattle.settlement.specs.Agents.{fits_role, agent_fits, no_agent}
 use Rattle.settlement.specs.Hour.{line_at, role_at, weight_for, market_line, overcost_line}
 use Rattle.settlement.specs.Pool.{Pool}
 use Rattle.settlement.specs.Power.{power_credit, power_due, power_weights, power_line}

@@ -2,8 +2,8 @@
 ghost use Rattle.std.specs.Prelude.{◌≡◌, ok_or};
 ghost use Rattle.settlement.specs.Lines.{class_of, line_within, must_run, line_kept};
 
-use crate::agents::Role;
 use crate::lines::{Class, Line, UnknownClass};
+use forms::Role;
 use valuation::{LEAST_FACTOR, MOST_ENERGY, MOST_FACTOR, MOST_PRICE};
 
 impl TryFrom<u32> for Class {

@@ -8,7 +8,8 @@ use Rattle.std.proofs.lemmas.Slice.Zip.{length-zip, get_or-zip}
 use Rattle.settlement.specs.declared.agents.Agent.{Agent}
 use Rattle.settlement.specs.declared.faults.LineFault.TheVariants.{BreaksRule}
 use Rattle.settlement.specs.declared.lines.Line.{Line}
-use Rattle.settlement.specs.Agents.{role_of, no_agent}
+use Rattle.forms.specs.Roles.{role_of}
+use Rattle.settlement.specs.Agents.{no_agent}
 use Rattle.settlement.specs.Hour.{line_at, role_at}
 use Rattle.settlement.specs.Lines.{line_kept, no_line}
 use Rattle.settlement.specs.Sums.{first_failing}

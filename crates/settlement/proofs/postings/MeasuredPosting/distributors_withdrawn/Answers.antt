@@ -4,7 +4,8 @@ use Rattle.std.proofs.lemmas.Iterator.{YieldsList-from_slice, YieldsList-from_zi
 use Rattle.std.proofs.lemmas.Iterator.Consumers.{sum_by_from_yields_List}
 use Rattle.settlement.specs.declared.agents.Agent.{Agent}
 use Rattle.settlement.specs.declared.lines.Line.{Line}
-use Rattle.settlement.specs.Agents.{role_of, no_agent}
+use Rattle.forms.specs.Roles.{role_of}
+use Rattle.settlement.specs.Agents.{no_agent}
 use Rattle.settlement.specs.Lines.{no_line}
 use Rattle.settlement.specs.Pool.{distributed_by, distributors_withdrawn}
 use Rattle.settlement.proofs.Settles.{distributors_le}
