@@ -67,6 +67,7 @@ pub fn part(points: u64, total: u64, before: u64, weight: u64) -> u64
 
 /// Shares `points` over the weights, and writes each weight's part to its place in `parts`.
 /// The parts add up to the points; where no weight is above 0 they are 0.
+// Kept as two slices: the library allocates nothing, so the caller lends the places of the parts.
 pub fn share(points: u64, weights: &[u32], parts: &mut [u64])
     requires places { length parts.old ≡ length weights.now }
     requires total_limit { sum weights.now < 2 ^ 32 }

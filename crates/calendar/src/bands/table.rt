@@ -178,6 +178,7 @@ const BANDS: [Band; 168] = [
 ];
 
 /// The band of an hour by a table that has the right band at each of the 168 places.
+#[tactic(auto, using(crate::proofs::BandTable::rule))]
 fn looked_up(table: &[Band], weekday: Weekday, hour: u32) -> Band
     requires places { length table.now ≡ 168 }
     requires right { table_is_right table.now ≡ true }
