@@ -1,5 +1,5 @@
 //! What power comes to when a month is closed.
-ghost use Rattle.std.specs.Prelude.{◌≡◌, ◌*◌, ◌≤◌, map, length, pos, ◌-ℤ◌, sum_by, sum, slice_index_or};
+ghost use Rattle.std.specs.Prelude.{◌≡◌, ◌*◌, ◌≤◌, map, length, pos, ◌-ℤ◌, sum_by, slice_index_or};
 ghost use Rattle.std.specs.List.{range_with_len};
 ghost use Rattle.std.specs.Result.{result_err};
 ghost use Rattle.valuation.specs.Sharing.{parts_of};
