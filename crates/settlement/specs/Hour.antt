@@ -82,8 +82,13 @@ weight_for (Some role) withdrawn = cond (carries role) withdrawn 0
 abbrev pub weight_at : List Agent → List Line → ℕ → ℕ
 weight_at agents lines i = weight_for (role_at agents i) (line_at lines i).withdrawn
 
+-- the weights of so many agents, each at its place
+abbrev pub weights_in : ℕ → (ℕ → ℕ) → List ℕ
+weights_in count weight = map weight (range_with_len 0 count)
+
+-- the weights of an hour, one for each line
 abbrev pub weights_of : List Agent → List Line → List ℕ
-weights_of agents lines = map (weight_at agents lines) (range_with_len 0 (length lines))
+weights_of agents lines = weights_in (length lines) (weight_at agents lines)
 
 -- the part of the hour's obligated excess that the agent at place i carries
 abbrev pub carried_by : List Agent → ℕ → List Line → ℕ → ℕ

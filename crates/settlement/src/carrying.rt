@@ -1,6 +1,6 @@
 //! Points that are carried over withdrawn energy, by distributors and large consumers alone.
-ghost use Rattle.std.specs.Prelude.{◌≡◌, ℕ, ◌<◌, ◌≤◌, ◌^◌, ◌&&◌, ◌==◌, map, length, nat_lt, sum};
-ghost use Rattle.std.specs.List.{range_with_len};
+ghost use Rattle.std.specs.Prelude.{◌≡◌, ℕ, ◌<◌, ◌≤◌, ◌^◌, ◌&&◌, ◌==◌, length, nat_lt, sum};
+ghost use Rattle.settlement.specs.Hour.{weights_in};
 ghost use Rattle.valuation.specs.Sharing.{parts_of};
 
 use valuation::share;
@@ -35,7 +35,7 @@ pub(crate) trait Carried {
 /// Writes the weight of each agent to its place.
 fn fill_weights<C: Carried>(carried: &C, weights: &mut [u32])
     requires { length weights.old ≡ C.agents carried.now }
-    ensures { weights.new ≡ map (C.weight carried.now) (range_with_len 0 (C.agents carried.now)) }
+    ensures { weights.new ≡ weights_in (C.agents carried.now) (C.weight carried.now) }
 {
     for (i, weight) in weights.iter_mut().enumerate() {
         *weight = carried.weight(i);
@@ -54,7 +54,7 @@ fn together(weights: &[u32]) -> u64
 fn is_uncarried_by<C: Carried>(carried: &C, weights: &mut [u32]) -> bool
     requires long { length weights.old ≡ C.agents carried.now }
     requires few { length weights.old ≤ 64 }
-    ensures { result ≡ (nat_lt 0 (C.points carried.now) && sum (map (C.weight carried.now) (range_with_len 0 (C.agents carried.now))) == 0) }
+    ensures { result ≡ (nat_lt 0 (C.points carried.now) && sum (weights_in (C.agents carried.now) (C.weight carried.now)) == 0) }
 {
     fill_weights(carried, weights);
     carried.points() > 0 && together(weights) == 0
@@ -62,7 +62,7 @@ fn is_uncarried_by<C: Carried>(carried: &C, weights: &mut [u32]) -> bool
 
 /// Whether there are points, and no weight carries them.
 pub(crate) fn is_uncarried<C: Carried>(carried: &C) -> bool
-    ensures { result ≡ (nat_lt 0 (C.points carried.now) && sum (map (C.weight carried.now) (range_with_len 0 (C.agents carried.now))) == 0) }
+    ensures { result ≡ (nat_lt 0 (C.points carried.now) && sum (weights_in (C.agents carried.now) (C.weight carried.now)) == 0) }
 {
     let mut weights = [0u32; 64];
     is_uncarried_by(carried, &mut weights[..carried.agents()])
@@ -72,8 +72,8 @@ pub(crate) fn is_uncarried<C: Carried>(carried: &C) -> bool
 fn fill_parts_by<C: Carried>(carried: &C, weights: &mut [u32], parts: &mut [u64])
     requires long { length weights.old ≡ C.agents carried.now }
     requires parts_long { length parts.old ≡ C.agents carried.now }
-    requires limit { sum (map (C.weight carried.now) (range_with_len 0 (C.agents carried.now))) < 2 ^ 32 }
-    ensures value { parts.new ≡ parts_of (C.points carried.now) (map (C.weight carried.now) (range_with_len 0 (C.agents carried.now))) }
+    requires limit { sum (weights_in (C.agents carried.now) (C.weight carried.now)) < 2 ^ 32 }
+    ensures value { parts.new ≡ parts_of (C.points carried.now) (weights_in (C.agents carried.now) (C.weight carried.now)) }
     ensures bound { C.points carried.now ≤ 1000000000000000000 }
 {
     fill_weights(carried, weights);
@@ -83,8 +83,8 @@ fn fill_parts_by<C: Carried>(carried: &C, weights: &mut [u32], parts: &mut [u64]
 /// Writes the part that each agent carries.
 pub(crate) fn fill_parts<C: Carried>(carried: &C, parts: &mut [u64])
     requires long { length parts.old ≡ C.agents carried.now }
-    requires limit { sum (map (C.weight carried.now) (range_with_len 0 (C.agents carried.now))) < 2 ^ 32 }
-    ensures value { parts.new ≡ parts_of (C.points carried.now) (map (C.weight carried.now) (range_with_len 0 (C.agents carried.now))) }
+    requires limit { sum (weights_in (C.agents carried.now) (C.weight carried.now)) < 2 ^ 32 }
+    ensures value { parts.new ≡ parts_of (C.points carried.now) (weights_in (C.agents carried.now) (C.weight carried.now)) }
     ensures bound { C.points carried.now ≤ 1000000000000000000 }
 {
     let mut weights = [0u32; 64];

@@ -44,52 +44,63 @@ fn check_head(agents: &[Agent], price: u32, lines: &[Line]) -> Result<(), LineFa
     Ok(())
 }
 
-/// Refuses a line with a figure outside its limit.
-fn check_limits(lines: &[Line]) -> Result<(), LineFault>
-    requires { length lines.now ≤ 64 }
-    ensures { result_err result ≡ limit_fault lines.now }
-{
-    match lines.iter().position(|line| !line.is_within_limits()) {
-        Some(i) => Err(LineFault::OutsideLimit(i as u32 + 1)),
-        None => Ok(()),
-    }
+/// The lines of a posting, one for each agent of a book.
+#[derive(Clone, Copy)]
+struct PostedLines<'a> {
+    lines: &'a [Line],
+    agents: &'a [Agent],
+    ghost few: { length lines.now ≤ 64 },
+    ghost each_has_one: { length lines.now ≡ length agents.now },
 }
 
-/// Refuses a line that breaks the rule of its class.
-fn check_rules(agents: &[Agent], lines: &[Line]) -> Result<(), LineFault>
-    requires few { length lines.now ≤ 64 }
-    requires each_has_one { length lines.now ≡ length agents.now }
-    ensures { result_err result ≡ rule_fault (length agents.now) agents.now lines.now }
-{
-    let count = agents.len() as u32;
-    let mut each = lines.iter().zip(agents);
-    match each.position(|(line, agent)| !line.keeps_its_class(count, agent.known_role())) {
-        Some(i) => Err(LineFault::BreaksRule(i as u32 + 1)),
-        None => Ok(()),
+impl PostedLines<'_> {
+    /// Refuses a line with a figure outside its limit.
+    fn check_limits(&self) -> Result<(), LineFault>
+        ensures { result_err result ≡ limit_fault self.now.lines.now }
+    {
+        let first = self.lines.iter().position(|line| !line.is_within_limits());
+        match first {
+            Some(i) => Err(LineFault::OutsideLimit(i as u32 + 1)),
+            None => Ok(()),
+        }
     }
-}
 
-/// All injected and all withdrawn energy of the lines.
-fn energy_together(lines: &[Line]) -> (u64, u64)
-    requires { length lines.now ≤ 64 }
-    ensures injected { result.0 ≡ injected_together lines.now }
-    ensures withdrawn { result.1 ≡ withdrawn_together lines.now }
-{
-    let injected = lines.iter().map(|line| u64::from(line.injected)).sum();
-    let withdrawn = lines.iter().map(|line| u64::from(line.withdrawn)).sum();
-    (injected, withdrawn)
-}
-
-/// Refuses too much injected or withdrawn energy together.
-fn check_together(lines: &[Line]) -> Result<(), LineFault>
-    requires { length lines.now ≤ 64 }
-    ensures { result_err result ≡ together_fault lines.now }
-{
-    let (injected, withdrawn) = energy_together(lines);
-    if injected > u64::from(MOST_ENERGY) || withdrawn > u64::from(MOST_ENERGY) {
-        return Err(LineFault::TooMuchTogether);
+    /// Refuses a line that breaks the rule of its class.
+    fn check_rules(&self) -> Result<(), LineFault>
+        ensures { result_err result ≡ rule_fault (length self.now.agents.now) self.now.agents.now self.now.lines.now }
+    {
+        let count = self.agents.len() as u32;
+        let mut each = self.lines.iter().zip(self.agents);
+        match each.position(|(line, agent)| !line.keeps_its_class(count, agent.known_role())) {
+            Some(i) => Err(LineFault::BreaksRule(i as u32 + 1)),
+            None => Ok(()),
+        }
     }
-    Ok(())
+
+    /// All injected and all withdrawn energy.
+    fn energy_together(&self) -> (u64, u64)
+        ensures injected { result.0 ≡ injected_together self.now.lines.now }
+        ensures withdrawn { result.1 ≡ withdrawn_together self.now.lines.now }
+    {
+        let injected = self.lines.iter().map(|line| u64::from(line.injected)).sum();
+        let withdrawn = self
+            .lines
+            .iter()
+            .map(|line| u64::from(line.withdrawn))
+            .sum();
+        (injected, withdrawn)
+    }
+
+    /// Refuses too much injected or withdrawn energy together.
+    fn check_together(&self) -> Result<(), LineFault>
+        ensures { result_err result ≡ together_fault self.now.lines.now }
+    {
+        let (injected, withdrawn) = self.energy_together();
+        if injected > u64::from(MOST_ENERGY) || withdrawn > u64::from(MOST_ENERGY) {
+            return Err(LineFault::TooMuchTogether);
+        }
+        Ok(())
+    }
 }
 
 /// A posting whose own figures are in order, or the first fault of them, in a month of `days` days.
@@ -110,9 +121,10 @@ pub fn check_posting<'a>(
 {
     let stamp = check_hour(days, hour)?;
     check_head(agents, price, lines)?;
-    check_limits(lines)?;
-    check_rules(agents, lines)?;
-    check_together(lines)?;
+    let posted = PostedLines { lines, agents };
+    posted.check_limits()?;
+    posted.check_rules()?;
+    posted.check_together()?;
     Ok(MeasuredPosting {
         stamp,
         price,

@@ -1,5 +1,5 @@
 //! What power comes to when a month is closed.
-ghost use Rattle.std.specs.Prelude.{◌≡◌, ◌*◌, ◌≤◌, map, length, pos, ◌-ℤ◌, sum_by, sum, slice_index_or};
+ghost use Rattle.std.specs.Prelude.{◌≡◌, ◌*◌, ◌≤◌, map, length, pos, ◌-ℤ◌, sum_by, slice_index_or};
 ghost use Rattle.std.specs.List.{range_with_len};
 ghost use Rattle.std.specs.Result.{result_err};
 ghost use Rattle.valuation.specs.Sharing.{parts_of};
@@ -23,15 +23,6 @@ fn power_credit(agent: &Agent) -> u64
     ensures bound { result ≤ 244813135815000 }
 {
     POINTS_PER_KW * u64::from(agent.power)
-}
-
-/// What all agents together are credited.
-fn power_due(agents: &[Agent]) -> u64
-    requires few { length agents.now ≤ 64 }
-    ensures value { result ≡ power_due agents.now }
-    ensures bound { result ≤ 15668040692160000 }
-{
-    agents.iter().map(power_credit).sum()
 }
 
 /// The agents of a book with their accounts of a month, which hold no more withdrawn energy than the month's hours can.
@@ -61,7 +52,7 @@ impl Carried for Month<'_> {
     }
 
     fn points(&self) -> u64 {
-        power_due(self.agents)
+        self.agents.iter().map(power_credit).sum()
     }
 }
 
@@ -112,7 +103,7 @@ fn charge_parts(agents: &[Agent], parts: &[u64], accounts: &mut [Entry])
     requires due_within { power_due agents.now ≤ 1000000000000000000 }
     ensures { accounts.new ≡ map (λ i. holding_joined (slice_index_or accounts.old i no_holding) (power_points (power_line agents.now (withdrawn_on accounts.old) i))) (range_with_len 0 (length accounts.old)) }
 {
-    // Kept by index: of what a `zip` with `iter_mut` writes, a proof knows nothing.
+    // Kept by index: over a `zip` with `iter_mut`, nothing ties what was written to the slice at the return, and the proof did not close.
     for (i, agent) in agents.iter().enumerate() {
         put_power(&mut accounts[i], power_credit(agent), parts[i]);
     }

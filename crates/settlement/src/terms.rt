@@ -1,5 +1,5 @@
 //! Which contracts may stand in a book.
-ghost use Rattle.std.specs.Prelude.{◌≡◌, ◌≤◌, length};
+ghost use Rattle.std.specs.Prelude.{◌≡◌, length};
 ghost use Rattle.settlement.specs.ContractFaults.{PartiesKnown, party_of, parties_of, in_book, contract_fits, place_fits, covers};
 ghost use Rattle.settlement.specs.Sums.{all_of};
 

@@ -2,11 +2,11 @@ use Rattle.std.proofs.Common.{◌≡◌, sum_by, ◌∙◌, rules}
 use Rattle.settlement.specs.declared.lines.Line.{Line}
 use Rattle.settlement.specs.Lines.{no_line}
 use Rattle.settlement.proofs.Sums.{sum_by_list}
-use Rattle.settlement.proofs.postings.energy_together.Goals as goal
+use Rattle.settlement.proofs.postings.PostedLines.energy_together.Goals as goal
 
 pub returns : goal.returns
 returns c =
-    let lines = c.args.lines.now in
+    let lines = c.args.self.now.lines.now in
     let injected : c.sum-injected.result ≡ sum_by (λ (l : Line). l.injected) lines = search rules in
     let withdrawn : c.sum-withdrawn.result ≡ sum_by (λ (l : Line). l.withdrawn) lines = search rules in
     record {

@@ -4,7 +4,7 @@ use Rattle.std.proofs.lemmas.Iterator.Consumers.{sum_by_from_yields_List}
 use Rattle.settlement.specs.declared.agents.Agent.{Agent}
 use Rattle.settlement.specs.Agents.{no_agent}
 use Rattle.settlement.proofs.Sums.{sum_by_list, sum_to_le}
-use Rattle.settlement.proofs.power.power_due.Goals as goal
+use Rattle.settlement.proofs.power.MonthCarried.points.Goals as goal
 
 -- a credit, which is at most that of the highest power that a figure can be
 abbrev credit : Agent → ℕ
@@ -12,12 +12,12 @@ credit a = min (57000 * a.power) 244813135815000
 
 pub returns-clause-value : goal.returns-clause-value
 returns-clause-value c =
-    let sum : c.sum.result ≡ sum_by (λ (a : Agent). 57000 * a.power) c.args.agents.now = search rules in
-    sum ∙ sum_by_list (λ (a : Agent). 57000 * a.power) c.args.agents.now no_agent
+    let sum : c.sum.result ≡ sum_by (λ (a : Agent). 57000 * a.power) c.args.self.now.agents.now = search rules in
+    sum ∙ sum_by_list (λ (a : Agent). 57000 * a.power) c.args.self.now.agents.now no_agent
 
 pub returns-clause-bound : goal.returns-clause-bound
 returns-clause-bound c =
-    let agents = c.args.agents.now in
+    let agents = c.args.self.now.agents.now in
     let sum : c.sum.result ≡ sum_by credit agents =
     sum_by_from_yields_List credit agents c.map.result c.sum.result c.sum.ensures.ran
     (YieldsList-from_map _ credit (YieldsList-from_slice agents cc) c.map.ensures.closure (λ x r q k. search rules)) in
@@ -25,5 +25,5 @@ returns-clause-bound c =
       arith,
       sum ∙ sum_by_list credit agents no_agent,
       sum_to_le (length agents) (λ i. credit (get_or agents i no_agent)) 244813135815000 (λ i below. omega arith),
-      c.requires.few,
+      c.args.self.now.few,
     )

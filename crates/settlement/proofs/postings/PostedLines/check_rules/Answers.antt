@@ -14,7 +14,7 @@ use Rattle.settlement.specs.Hour.{line_at, role_at}
 use Rattle.settlement.specs.Lines.{line_kept, no_line}
 use Rattle.settlement.specs.Sums.{first_failing}
 use Rattle.settlement.proofs.Checks.{first_is}
-use Rattle.settlement.proofs.postings.check_rules.Goals as goal
+use Rattle.settlement.proofs.postings.PostedLines.check_rules.Goals as goal
 
 -- a line of an agent that breaks the rule of its class
 abbrev broken : ℕ → Line × Agent → Bool
@@ -32,16 +32,16 @@ first_broken count agents lines long =
 
 pub returns-in-Some : goal.returns-in-Some
 returns-in-Some c =
-    let lines = c.args.lines.now in
-    let agents = c.args.agents.now in
-    let found : c.position.result ≡ position (broken (length c.args.agents.now)) (zip lines agents) =
-    position_from_yields_List (broken (length c.args.agents.now)) c.position.new.self _ c.position.result c.position.ensures.ran (YieldsList-from_zip (YieldsList-from_slice lines cc) (YieldsList-from_slice agents cc)) (λ x b q k. search (rules, tests)) in
-    ap (option_map (λ i. BreaksRule (i + 1))) (sym c.in-Some.is ∙ found ∙ first_broken (length c.args.agents.now) agents lines c.requires.each_has_one)
+    let lines = c.args.self.now.lines.now in
+    let agents = c.args.self.now.agents.now in
+    let found : c.position.result ≡ position (broken (length c.args.self.now.agents.now)) (zip lines agents) =
+    position_from_yields_List (broken (length c.args.self.now.agents.now)) c.position.new.self _ c.position.result c.position.ensures.ran (YieldsList-from_zip (YieldsList-from_slice lines cc) (YieldsList-from_slice agents cc)) (λ x b q k. search (rules, tests)) in
+    ap (option_map (λ i. BreaksRule (i + 1))) (sym c.in-Some.is ∙ found ∙ first_broken (length c.args.self.now.agents.now) agents lines c.args.self.now.each_has_one)
 
 pub returns-in-None : goal.returns-in-None
 returns-in-None c =
-    let lines = c.args.lines.now in
-    let agents = c.args.agents.now in
-    let found : c.position.result ≡ position (broken (length c.args.agents.now)) (zip lines agents) =
-    position_from_yields_List (broken (length c.args.agents.now)) c.position.new.self _ c.position.result c.position.ensures.ran (YieldsList-from_zip (YieldsList-from_slice lines cc) (YieldsList-from_slice agents cc)) (λ x b q k. search (rules, tests)) in
-    ap (option_map (λ i. BreaksRule (i + 1))) (sym c.in-None.is ∙ found ∙ first_broken (length c.args.agents.now) agents lines c.requires.each_has_one)
+    let lines = c.args.self.now.lines.now in
+    let agents = c.args.self.now.agents.now in
+    let found : c.position.result ≡ position (broken (length c.args.self.now.agents.now)) (zip lines agents) =
+    position_from_yields_List (broken (length c.args.self.now.agents.now)) c.position.new.self _ c.position.result c.position.ensures.ran (YieldsList-from_zip (YieldsList-from_slice lines cc) (YieldsList-from_slice agents cc)) (λ x b q k. search (rules, tests)) in
+    ap (option_map (λ i. BreaksRule (i + 1))) (sym c.in-None.is ∙ found ∙ first_broken (length c.args.self.now.agents.now) agents lines c.args.self.now.each_has_one)

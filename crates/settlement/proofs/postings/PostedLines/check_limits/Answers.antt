@@ -9,7 +9,7 @@ use Rattle.settlement.specs.Hour.{line_at}
 use Rattle.settlement.specs.Lines.{line_within, no_line}
 use Rattle.settlement.specs.Sums.{first_failing}
 use Rattle.settlement.proofs.Checks.{first_is}
-use Rattle.settlement.proofs.postings.check_limits.Goals as goal
+use Rattle.settlement.proofs.postings.PostedLines.check_limits.Goals as goal
 
 -- the first line with a figure outside its limit, by its place
 first_outside : (lines : List Line) → position (λ (l : Line). not (line_within l)) lines ≡ first_failing (λ i. line_within (line_at lines i)) 0 (length lines)
@@ -17,14 +17,14 @@ first_outside lines = first_is (λ (l : Line). not (line_within l)) (λ i. line_
 
 pub returns-in-Some : goal.returns-in-Some
 returns-in-Some c =
-    let lines = c.args.lines.now in
-    let found : c.position.result ≡ position (λ (l : Line). not (line_within l)) lines =
-    position_from_yields_List (λ (l : Line). not (line_within l)) _ _ c.position.result c.position.ensures.ran (YieldsList-from_slice lines cc) (λ x b q k. search (rules, tests)) in
+    let lines = c.args.self.now.lines.now in
+    let found : c.position-first.result ≡ position (λ (l : Line). not (line_within l)) lines =
+    position_from_yields_List (λ (l : Line). not (line_within l)) _ _ c.position-first.result c.position-first.ensures.ran (YieldsList-from_slice lines cc) (λ x b q k. search (rules, tests)) in
     ap (option_map (λ i. OutsideLimit (i + 1))) (sym c.in-Some.is ∙ found ∙ first_outside lines)
 
 pub returns-in-None : goal.returns-in-None
 returns-in-None c =
-    let lines = c.args.lines.now in
-    let found : c.position.result ≡ position (λ (l : Line). not (line_within l)) lines =
-    position_from_yields_List (λ (l : Line). not (line_within l)) _ _ c.position.result c.position.ensures.ran (YieldsList-from_slice lines cc) (λ x b q k. search (rules, tests)) in
+    let lines = c.args.self.now.lines.now in
+    let found : c.position-first.result ≡ position (λ (l : Line). not (line_within l)) lines =
+    position_from_yields_List (λ (l : Line). not (line_within l)) _ _ c.position-first.result c.position-first.ensures.ran (YieldsList-from_slice lines cc) (λ x b q k. search (rules, tests)) in
     ap (option_map (λ i. OutsideLimit (i + 1))) (sym c.in-None.is ∙ found ∙ first_outside lines)
