@@ -131,6 +131,9 @@ module _ (g : MonthFigures) (m : Memory) (calls : List Call) (answers : List Ans
   ran_agents : length m.agents ≡ g.agents
   ran_agents = agents_long g m ran.faultless
 
+  pub ran_sized : sized g.agents (hours_of g.days) held ≡ true
+  ran_sized = ap (λ n. sized n (hours_of g.days) held) (sym ran_agents) ∙ (holds_fits o opened_so (after o requests) sound_so held holds_so).0
+
   pub ran_stored : stored_fits held ≡ true
   ran_stored = (holds_fits o opened_so (after o requests) sound_so held holds_so).1
 

@@ -8,7 +8,7 @@ use Rattle.book.specs.Months.{figures_of}
 use Rattle.settlement.specs.Sums.{sum_to_ℤ}
 use Rattle.audit.specs.Reading.{request_of, reply_of}
 use Rattle.audit.specs.Told.{residue_told}
-use Rattle.audit.proofs.Audited.{open_accepted, Ran, ran_from, ran_stored, ran_measured, ran_small, ran_settled}
+use Rattle.audit.proofs.Audited.{open_accepted, Ran, ran_from, ran_sized, ran_stored, ran_measured, ran_small, ran_settled}
 use Rattle.audit.proofs.audits.audit.Goals as goal
 use Rattle.audit.proofs.audits.audit.Goals.{After-view}
 
@@ -23,6 +23,9 @@ ran : (c : After-view) → Ran (figures_of c.in_ok-month.month) (lent c) c.args.
 ran c =
     ran_from c.args.figures (figures_of c.in_ok-month.month) (lent c) _ c.args.calls.now c.replay.new.answers (held c)
     c.in_ok-month.ensures.value c.replay.ensures.told (c.view.ensures ∙ c.replay.ensures.holds)
+
+pub fill_statements-requires-clause-sized : goal.fill_statements-requires-clause-sized
+fill_statements-requires-clause-sized c = ran_sized _ _ _ _ _ (ran (goal.at.fill_statements-requires-clause-sized c).After-view)
 
 pub fill_statements-requires-clause-stored : goal.fill_statements-requires-clause-stored
 fill_statements-requires-clause-stored c = ran_stored _ _ _ _ _ (ran (goal.at.fill_statements-requires-clause-stored c).After-view)
