@@ -28,10 +28,7 @@ pub fn check_hour(days: u32, hour: u32) -> Result<HourStamp, LineFault>
     ensures fault { result_err result ≡ hour_fault (24 * days) hour }
     ensures stamp { IfOk result (λ s. (s.hour ≡ hour) × (s.days ≡ days)) }
 {
-    match HourStamp::new(hour, days) {
-        Some(stamp) => Ok(stamp),
-        None => Err(LineFault::HourOutside(hour)),
-    }
+    HourStamp::new(hour, days).ok_or(LineFault::HourOutside(hour))
 }
 
 /// Refuses another number of lines than agents, or a price outside its limit.
