@@ -1,7 +1,7 @@
 -- A whole audit: from what its parts ensure to the law. Assumes nothing.
 use Rattle.std.proofs.Common.{◌≡◌, ℕ, ◌*◌, ◌<◌, ◌≤◌, true, not, ◌||◌, ltb, leb, List, [], ◌∷◌, map, length, ℤ, pos, neg_ℤ, nat_abs, Some, None, Ok, Option, sym, refl, ap, ◌∙◌, subst, arith}
 use mathlib.Core.List.{map-map}
-use Rattle.std.specs.List.{range_with_len}
+use Rattle.std.specs.List.{range_with_len, list_all}
 use Rattle.std.proofs.lemmas.List.FromFn.{length-map-range_with_len, get_or-map-range_with_len}
 use Rattle.std.proofs.lemmas.Bool.{and_parts, or_parts, not-false, leb-true, ltb-false, eqb-true}
 use Rattle.settlement.specs.declared.faults.BookFault.{BookFault}
@@ -11,7 +11,6 @@ use Rattle.book.specs.declared.statements.Statement.{Statement}
 use Rattle.settlement.specs.Agents.{agent_fits}
 use Rattle.book.specs.Calls.{outcome, outcome_of, open_fault, emptied, opened, statement_in}
 use Rattle.settlement.specs.Faults.{met_if}
-use Rattle.settlement.specs.Sums.{all_of}
 use Rattle.book.specs.Memory.{Memory, sized, stored_fits, size_fault}
 use Rattle.book.specs.Months.{hours_of, size_known, month_figures}
 use Rattle.settlement.specs.Sums.{sum_to_ℤ}
@@ -49,7 +48,7 @@ module _ (g : MonthFigures) (m : Memory) (faultless : open_fault g m ≡ None) w
   book = opening_of g.days g.weekday m.agents
 
   abbrev rows : List (Option BookFault)
-  rows = met_if (not (size_known g)) OutsideBook ∷ size_fault g.agents (hours_of g.days) m ∷ met_if (ltb 6 g.weekday || not (all_of agent_fits m.agents)) OutsideBook ∷ []
+  rows = met_if (not (size_known g)) OutsideBook ∷ size_fault g.agents (hours_of g.days) m ∷ met_if (ltb 6 g.weekday || not (list_all agent_fits m.agents)) OutsideBook ∷ []
 
   none_met : NoneMet rows
   none_met = first_met_none rows faultless
@@ -66,7 +65,7 @@ module _ (g : MonthFigures) (m : Memory) (faultless : open_fault g m ≡ None) w
       let few = and_parts (leb 1 g.agents) _ known in
       let most = and_parts (leb g.agents 64) _ few.1 in
       let days = and_parts (leb 1 g.days) _ most.1 in
-      let last = or_parts (ltb 6 g.weekday) (not (all_of agent_fits m.agents)) (unmet _ _ (sym none_met.1.1.0)) in
+      let last = or_parts (ltb 6 g.weekday) (not (list_all agent_fits m.agents)) (unmet _ _ (sym none_met.1.1.0)) in
       record {
         some_agents = omega (arith, agents_long, leb-true 1 g.agents few.0);
         few_agents = omega (arith, agents_long, leb-true g.agents 64 most.0);

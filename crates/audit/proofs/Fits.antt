@@ -1,5 +1,6 @@
 -- Memory that holds what stands has its size and keeps every limit. Assumes nothing.
 use Rattle.std.proofs.Common.{◌≡◌, ℕ, suc, ◌/◌, ◌%◌, ◌^◌, ◌<◌, ◌≤◌, Bool, true, not, ◌&&◌, leb, List, [], ◌∷◌, length, get_or, Some, None, Option, sym, refl, ap, ◌∙◌, mod-eq_of_lt, arith}
+use Rattle.std.specs.List.{list_all}
 use native.Mathlib.Nat.{mod-le}
 use Rattle.std.proofs.lemmas.Nat.{div-add-mod', div_below, mod_below}
 use Rattle.std.proofs.lemmas.Bool.{and_from, eq-eqb, le-leb}
@@ -8,7 +9,6 @@ use Rattle.settlement.specs.declared.faults.BookFault.TheVariants.{WrongSize, St
 use Rattle.settlement.specs.Agents.{agent_fits}
 use Rattle.settlement.specs.Faults.{met_if, first_met}
 use Rattle.settlement.specs.Holdings.{no_holding}
-use Rattle.settlement.specs.Sums.{all_of}
 use Rattle.book.specs.Memory.{Memory, sized, mark_fits, energy_within, all_withdrawn, stored_fits, size_fault, stored_fault}
 use Rattle.settlement.specs.Sums.{sum_to}
 use Rattle.audit.specs.Requests.{Opening, count_in, hours_in, Posting}
@@ -20,7 +20,7 @@ use Rattle.audit.proofs.Sound.{Opened, Sound}
 use Rattle.settlement.proofs.Sums.{sum_to_same, sum_by_list}
 
 -- a test that each place of a list passes
-all_from : {X : Type 0} (test : X → Bool) (xs : List X) (d : X) → ((k : ℕ) → k < length xs → test (get_or xs k d) ≡ true) → all_of test xs ≡ true
+all_from : {X : Type 0} (test : X → Bool) (xs : List X) (d : X) → ((k : ℕ) → k < length xs → test (get_or xs k d) ≡ true) → list_all test xs ≡ true
 all_from test [] d each = refl
 all_from test (x ∷ xs) d each = and_from (test x) _ (each 0 (omega arith)) (all_from test xs d (λ k l. each (suc k) (omega arith)))
 
@@ -42,11 +42,11 @@ module _ (o : Opening) (opened : Opened o) (s : Standing) (sound : Sound o s) (m
       (and_from _ _ (eq-eqb _ _ holds.contracts_long)
       (and_from _ _ (eq-eqb _ _ holds.marks_long) (eq-eqb _ _ holds.entries_long))))
 
-  marks_fit : all_of mark_fits m.marks ≡ true
+  marks_fit : list_all mark_fits m.marks ≡ true
   marks_fit = all_from mark_fits m.marks 0 (λ k l. ap mark_fits (holds.marks k (omega arith)) ∙ mark_fits_lem (s.posted k))
 
   -- each entry is that of an agent and an hour
-  entries_fit : all_of (energy_within 4000000) m.entries ≡ true
+  entries_fit : list_all (energy_within 4000000) m.entries ≡ true
   entries_fit =
       all_from (energy_within 4000000) m.entries no_holding
       (λ k l.
@@ -58,7 +58,7 @@ module _ (o : Opening) (opened : Opened o) (s : Standing) (sound : Sound o s) (m
       ap (energy_within 4000000) (ap (λ n. get_or m.entries n no_holding) (sym (div-add-mod' k (hours_in o))) ∙ holds.entries i hour agent within)
       ∙ energy_fits 4000000 _ _ (injected_le o opened s sound i hour agent within) (withdrawn_le o opened s sound i hour agent within))
 
-  accounts_fit : all_of (energy_within 2976000000) m.accounts ≡ true
+  accounts_fit : list_all (energy_within 2976000000) m.accounts ≡ true
   accounts_fit =
       all_from (energy_within 2976000000) m.accounts no_holding
       (λ i l.
@@ -74,7 +74,7 @@ module _ (o : Opening) (opened : Opened o) (s : Standing) (sound : Sound o s) (m
 
   is_stored : stored_fits m ≡ true
   is_stored =
-      and_from _ _ (ap (all_of agent_fits) holds.agents ∙ opened.agents)
+      and_from _ _ (ap (list_all agent_fits) holds.agents ∙ opened.agents)
       (and_from _ _ marks_fit (and_from _ _ entries_fit (and_from _ _ accounts_fit (le-leb (all_withdrawn m.accounts) 2976000000 (omega (arith, all_withdrawn_lem, all_withdrawn_le o opened s sound))))))
 
   pub holds_fits : (sized (count_in o) (hours_in o) m ≡ true) × (stored_fits m ≡ true)

@@ -1,7 +1,7 @@
 -- What an accepted opening and accepted postings are known to be. Assumes nothing.
 use Rattle.std.proofs.Common.{◌≡◌, ℕ, ◌<◌, ◌≤◌, true, Some, None}
+use Rattle.std.specs.List.{list_all}
 use Rattle.settlement.specs.Agents.{agent_fits}
-use Rattle.settlement.specs.Sums.{all_of}
 use Rattle.audit.specs.Requests.{Opening, count_in, hours_in, Posting, posting}
 use Rattle.audit.specs.Standing.{Standing, nothing_stands, fault_met}
 
@@ -12,7 +12,7 @@ pub record Opened (o : Opening) : Type 0 where
   pub some_days : 1 ≤ o.days
   pub few_days : o.days ≤ 31
   pub weekday : o.weekday ≤ 6
-  pub agents : all_of agent_fits o.agents ≡ true
+  pub agents : list_all agent_fits o.agents ≡ true
 
 -- a posting of an hour meets no fault: that depends on the opening alone
 abbrev pub Faultless : Opening → ℕ → Posting → Type 0

@@ -15,12 +15,7 @@ fn told(outcome: Result<(), BookFault>) -> Answer
 }
 
 /// One call on one book.
-pub fn answer(
-    month: &OpenMonth,
-    call: &Call,
-    pool: &Pool<'_>,
-    ledger: &mut Ledger<'_>,
-) -> Answer
+pub fn answer(month: &OpenMonth, call: &Call, pool: &Pool<'_>, ledger: &mut Ledger<'_>) -> Answer
     ensures lent { SameLoan ledger.old ledger.new }
     ensures value { heard_of result (memory_in pool.now ledger.new) ≡ heard (figures_of month.now) call.now (memory_in pool.now ledger.old) }
 {

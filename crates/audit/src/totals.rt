@@ -11,11 +11,7 @@ ghost use Rattle.audit.specs.Runs.{balance_at};
 use book::{OpenMonth, Statement, View, provisional};
 
 /// Writes the provisional statement of every agent to its place.
-pub(crate) fn fill_statements(
-    month: &OpenMonth,
-    view: &View<'_, '_>,
-    statements: &mut [Statement],
-)
+pub(crate) fn fill_statements(month: &OpenMonth, view: &View<'_, '_>, statements: &mut [Statement])
     requires long { length statements.old ≡ (figures_of month.now).agents }
     requires sized { sized (figures_of month.now).agents (hours_of (figures_of month.now).days) (memory_seen view.now) ≡ true }
     requires stored { stored_fits (memory_seen view.now) ≡ true }

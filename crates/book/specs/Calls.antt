@@ -1,11 +1,8 @@
 -- Each call on a book: its answer, and all memory after it. Assumes nothing.
-use Rattle.std.specs.Prelude.{ℕ, ◌+◌, ◌-◌, ◌*◌, ◌/◌, ◌%◌, cond, not, ◌||◌, List, [], ◌∷◌, map, length, get_or, take, drop, replicate, pos, ◌+ℤ◌, Some, None, Ok, Err, Option, Result, ◌==◌, nat_lt, slice_index, slice_index_or, slice_set}
+use Rattle.std.specs.Prelude.{ℕ, ◌+◌, ◌-◌, ◌*◌, ◌/◌, ◌%◌, cond, not, ◌||◌, List, [], ◌∷◌, map, length, get_or, take, drop, replicate, ◌+ℤ◌, Some, None, Ok, Err, Option, Result, ◌==◌, nat_lt, slice_index, slice_index_or, slice_set}
 use Rattle.std.specs.List.{range_with_len, list_all}
 use Rattle.std.specs.Int.{int_wrap, w64}
 use Rattle.tally.specs.declared.peak.Peak.{Peak}
-use Rattle.tally.specs.Money.{money_of}
-use Rattle.tally.specs.Energy.{energy_of}
-use Rattle.tally.specs.Pair.{pair_of}
 use Rattle.tally.specs.Peak.{peak_of, no_peak, peak_joined}
 use Rattle.tally.specs.Total.{total}
 use Rattle.settlement.specs.declared.lines.Line.{Line}
@@ -15,7 +12,7 @@ use Rattle.settlement.specs.declared.faults.BookFault.{BookFault}
 use Rattle.settlement.specs.declared.faults.BookFault.TheVariants.{OutsideBook, NoCarrier, FreeHour}
 use Rattle.settlement.specs.Agents.{agent_fits}
 use Rattle.settlement.specs.Faults.{met_if, first_met, of_posting, answer_of}
-use Rattle.settlement.specs.Hour.{Figures, own_of}
+use Rattle.settlement.specs.Hour.{own_of}
 use Rattle.settlement.specs.Holdings.{Holding, no_holding, holding_joined, holding_undone, entry_of}
 use Rattle.book.specs.Memory.{Memory, size_fault, stored_fault}
 use Rattle.book.specs.Months.{hours_of, size_known}

@@ -12,6 +12,8 @@ use crate::rewrites::replace_hour;
 use settlement::{Account, BookFault, Entry, Line, MeasuredPosting};
 use tally::{Pair, Tally};
 
+// Kept as numbers, as the marks of lent memory are.
+
 /// The mark of an hour at which nothing stands.
 const FREE: u8 = 0;
 
@@ -51,6 +53,7 @@ pub fn post(
     let posting = month.check_posting(hour, price, lines, pool.agents)?;
     posting.check_carriers()?;
     let nothing: Entry = Pair::neutral();
+    // Kept as an array, here and in `withdraw`: the library allocates nothing.
     let mut fresh = [nothing; 64];
     write_posting(
         &posting,

@@ -24,6 +24,7 @@ fn fill_peaks(month: &[Entry], peaks: &mut [Peak])
     requires few { length month.now ≤ 744 }
     ensures { peaks.new ≡ map (λ hour. peak_of (slice_index_or month.now hour no_holding).second.withdrawn hour) (range_with_len 0 (length month.now)) }
 {
+    // Kept by index: of the peaks that a zip with `iter_mut` writes, a proof knows nothing afterwards.
     for (hour, entry) in month.iter().enumerate() {
         peaks[hour] = Peak::of(entry.second.withdrawn, hour as u32);
     }
@@ -45,6 +46,7 @@ fn month_peak(entries: &[Entry], first: usize, hours: usize) -> Peak
     requires few { hours ≤ 744 }
     ensures { result ≡ peak_over hours (λ hour. slice_index_or entries.now (first + hour) no_holding) }
 {
+    // Kept as an array: the library allocates nothing, and the one fold takes a slice.
     let mut peaks = [Peak::neutral(); MOST_HOURS];
     highest(&entries[first..first + hours], &mut peaks[0..hours])
 }

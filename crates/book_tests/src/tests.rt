@@ -156,7 +156,11 @@ fn stored_figures_at_their_limits_are_accepted(rt: HostRuntime) {
 fn a_wrong_size_is_answered_before_a_stored_figure(rt: HostRuntime) {
     for trial in CALLS {
         assert_eq!(rt;
-            tried(Sizes { marks: 23, ..RIGHT }, Some(Damage::LastMark(2)), trial),
+            tried(
+                Sizes { marks: 23, ..RIGHT },
+                Some(Damage::LastMark(2)),
+                trial
+            ),
             WRONG_SIZE
         );
     }

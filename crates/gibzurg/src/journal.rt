@@ -19,16 +19,9 @@ pub(crate) enum Entry {
 #[derive(Clone, Copy)]
 pub(crate) enum Request {
     Open(MonthFigures),
-    Post {
-        hour: u32,
-        price: u32,
-    },
-    Withdraw {
-        hour: u32,
-    },
-    Statement {
-        agent: u32,
-    },
+    Post { hour: u32, price: u32 },
+    Withdraw { hour: u32 },
+    Statement { agent: u32 },
     Statements,
 }
 

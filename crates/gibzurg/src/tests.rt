@@ -40,16 +40,7 @@ fn figures(entry: Option<Entry>) -> [u32; 8] {
 
 fn asked(request: Request) -> [u32; 8] {
     match request {
-        Request::Open(figures) => [
-            1,
-            figures.agents,
-            figures.days,
-            figures.weekday,
-            0,
-            0,
-            0,
-            0,
-        ],
+        Request::Open(figures) => [1, figures.agents, figures.days, figures.weekday, 0, 0, 0, 0],
         Request::Post { hour, price } => [3, hour, price, 0, 0, 0, 0, 0],
         Request::Withdraw { hour } => [5, hour, 0, 0, 0, 0, 0, 0],
         Request::Statement { agent } => [6, agent, 0, 0, 0, 0, 0, 0],

@@ -1,34 +1,15 @@
 -- Checks that go through a list: what is left of it gives the answer. Assumes nothing.
-use Rattle.std.proofs.Common.{◌≡◌, ℕ, zero, suc, ◌+◌, ◌<◌, ◌≤◌, Bool, true, false, not, cond, ◌&&◌, List, [], ◌∷◌, length, get_or, drop, Some, Option, position, refl, ap, ◌∙◌, le_of_suc-le-suc, not-suc-le-zero, arith}
+use Rattle.std.proofs.Common.{◌≡◌, ℕ, zero, suc, ◌+◌, ◌<◌, Bool, true, false, not, cond, List, [], ◌∷◌, length, get_or, Some, Option, position, refl, ap, ◌∙◌, le_of_suc-le-suc, not-suc-le-zero, arith}
 use Rattle.std.specs.List.{list_all, position_from}
 use Rattle.std.proofs.lemmas.Iterator.Adapters.{position_from-zero}
-use Rattle.std.proofs.lemmas.List.{at_drop_more, at_drop_all}
 use Rattle.std.proofs.lemmas.Bool.{and_parts}
-use Rattle.settlement.specs.Sums.{all_of, first_failing}
-
-module _ {X : Type 0} (test : X → Bool) (xs : List X) (i : ℕ) where
-  -- the item at i passes, so that the rest tells
-  pub all_more : (d : X) → i < length xs → test (get_or xs i d) ≡ true → all_of test (drop i xs) ≡ all_of test (drop (i + 1) xs)
-  all_more d within passes = at_drop_more (all_of test) xs i d within ∙ ap (λ b. b && all_of test (drop (i + 1) xs)) passes
-
-  -- the item at i fails
-  pub all_fails : (d : X) → i < length xs → test (get_or xs i d) ≡ false → all_of test (drop i xs) ≡ false
-  all_fails d within fails = at_drop_more (all_of test) xs i d within ∙ ap (λ b. b && all_of test (drop (i + 1) xs)) fails
-
-  -- nothing is left
-  pub all_passed : length xs ≤ i → all_of test (drop i xs) ≡ true
-  all_passed past = at_drop_all (all_of test) xs i past
+use Rattle.settlement.specs.Sums.{first_failing}
 
 -- each item of a list that passes whole passes
-pub all_each : {X : Type 0} (test : X → Bool) (xs : List X) (i : ℕ) (d : X) → all_of test xs ≡ true → i < length xs → test (get_or xs i d) ≡ true
+pub all_each : {X : Type 0} (test : X → Bool) (xs : List X) (i : ℕ) (d : X) → list_all test xs ≡ true → i < length xs → test (get_or xs i d) ≡ true
 all_each test [] i d all within = absurd (not-suc-le-zero within)
-all_each test (x ∷ xs) zero d all within = (and_parts (test x) (all_of test xs) all).0
-all_each test (x ∷ xs) (suc i) d all within = all_each test xs i d (and_parts (test x) (all_of test xs) all).1 (le_of_suc-le-suc within)
-
--- the items of a list that pass a test, all of them, by the library's word
-pub all_is : {X : Type 0} (test : X → Bool) (xs : List X) → list_all test xs ≡ all_of test xs
-all_is test [] = refl
-all_is test (x ∷ xs) = ap (λ b. test x && b) (all_is test xs)
+all_each test (x ∷ xs) zero d all within = (and_parts (test x) (list_all test xs) all).0
+all_each test (x ∷ xs) (suc i) d all within = all_each test xs i d (and_parts (test x) (list_all test xs) all).1 (le_of_suc-le-suc within)
 
 -- the first place whose item fails, where each place has a test of its own
 pub first_from : {X : Type 0} (fails : X → Bool) (test : ℕ → Bool) (start : ℕ) (xs : List X) (d : X) →

@@ -1,5 +1,5 @@
 -- Points put on a contract line: none, several, and on the entry of a posting's own lines. Assumes nothing.
-use Rattle.std.proofs.Common.{◌≡◌, ℕ, ◌+◌, ◌-◌, ◌<◌, ◌≤◌, Bool, true, false, cond, eqb, List, [], ◌∷◌, ◌++◌, length, get_or, take, set, ℤ, pos, ◌+ℤ◌, sym, refl, ap, ◌∙◌, inl, inr, arith}
+use Rattle.std.proofs.Common.{◌≡◌, ℕ, ◌+◌, ◌-◌, ◌<◌, ◌≤◌, cond, eqb, List, [], ◌∷◌, ◌++◌, length, get_or, take, set, ℤ, pos, ◌+ℤ◌, sym, ap, ◌∙◌, inl, inr, arith}
 use lib.IntN.{+ℤ_idl, +ℤ_idr, +ℤ_assoc}
 use Rattle.std.proofs.lemmas.List.{get_or-set_same, get_or-set_other, take_more}
 use Rattle.std.proofs.lemmas.Bool.{cases_eq, cond-true, cond-false, eq-eqb, ne_eqb}
@@ -25,11 +25,6 @@ points_more a b h =
     pair_same _ _
     (money_lawful.associative h.first (money_of (pos 0) a (pos 0) (pos 0)) (money_of (pos 0) b (pos 0) (pos 0)) ∙ ap (money_joined h.first) (money_of_joined (pos 0) a (pos 0) (pos 0) (pos 0) b (pos 0) (pos 0)))
     (energy_lawful.associative h.second no_energy no_energy ∙ ap (energy_joined h.second) (energy_lawful.identity no_energy))
-
--- points that are put on only where a test holds
-pub points_if : (test : Bool) (points : ℤ) (h : Holding) → cond test (with_points points h) h ≡ with_points (cond test points (pos 0)) h
-points_if true points h = refl
-points_if false points h = sym (points_none h)
 
 -- figures with another contract line
 abbrev pub with_contract : ℤ → Figures → Figures

@@ -12,9 +12,6 @@ use Rattle.settlement.specs.Sums.{sum_to, sum_to_ℤ}
 
 -- ---- one more
 
-pub sum_to_more : (n : ℕ) (f : ℕ → ℕ) → sum_to (n + 1) f ≡ sum_to n f + f n
-sum_to_more n f = ap (λ k. sum_to k f) (add-one n)
-
 pub sum_to_ℤ_more : (n : ℕ) (f : ℕ → ℤ) → sum_to_ℤ (n + 1) f ≡ sum_to_ℤ n f +ℤ f n
 sum_to_ℤ_more n f = ap (λ k. sum_to_ℤ k f) (add-one n)
 
@@ -84,9 +81,6 @@ fits_abs z small = omega (arith, ints)
 pub mag_abs : (z : ℤ) → mag z ≤ nat_abs z
 mag_abs (pos n) = omega arith
 mag_abs (negsuc n) = omega arith
-
-pub sum_to_ℤ_mag : (n : ℕ) (f : ℕ → ℤ) (most : ℕ) → ((k : ℕ) → k < n → nat_abs (f k) ≤ most) → mag (sum_to_ℤ n f) ≤ n * most
-sum_to_ℤ_mag n f most each = omega (arith, mag_abs (sum_to_ℤ n f), sum_to_ℤ_abs n f most each)
 
 -- ---- sums of sums
 

@@ -1,5 +1,5 @@
 -- The agents of a book. Assumes nothing.
-use Rattle.std.specs.Prelude.{ℕ, Bool, false, ◌&&◌, ◌||◌, Some, None, Option, ◌==◌, nat_le}
+use Rattle.std.specs.Prelude.{Bool, false, ◌&&◌, ◌||◌, Some, None, Option, ◌==◌, nat_le}
 use Rattle.forms.specs.declared.roles.Role.{Role}
 use Rattle.forms.specs.Roles.{role_of, generates}
 use Rattle.settlement.specs.declared.agents.Agent.{Agent}

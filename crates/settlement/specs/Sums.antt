@@ -1,6 +1,5 @@
--- Sums over the agents, the lines, the hours or the contract places, and tests of a whole list. Places are counted from 0. Assumes nothing.
-use Rattle.std.specs.List.{list_all}
-use Rattle.std.specs.Prelude.{ℕ, zero, suc, ◌+◌, Bool, true, cond, ◌&&◌, List, [], ◌∷◌, ℤ, pos, ◌+ℤ◌, Some, None, Option}
+-- Sums over the agents, the lines, the hours or the contract places, and the first place that fails a test. Places are counted from 0. Assumes nothing.
+use Rattle.std.specs.Prelude.{ℕ, zero, suc, ◌+◌, Bool, cond, List, [], ◌∷◌, ℤ, pos, ◌+ℤ◌, Some, None, Option}
 
 -- f 0 + … + f (n − 1)
 abbrev pub sum_to : ℕ → (ℕ → ℕ) → ℕ
@@ -21,7 +20,3 @@ first_failing test start (suc n) = cond (test start) (first_failing test (start 
 abbrev pub sum_of : {X : Type 0} → (X → ℤ) → List X → ℤ
 sum_of f [] = pos 0
 sum_of f (x ∷ xs) = f x +ℤ sum_of f xs
-
--- every one of a list passes a test
-abbrev pub all_of : {X : Type 0} → (X → Bool) → List X → Bool
-all_of test xs = list_all test xs

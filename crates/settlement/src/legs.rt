@@ -1,12 +1,11 @@
 //! What contracts put on their parties' contract lines, and so all that an hour gives.
 ghost use Rattle.std.specs.Prelude.{◌≡◌, ℕ, ◌+◌, ◌*◌, ◌<◌, ◌≤◌, true, map, length, pos, if◌then◌else◌, nat_eq, slice_index_or};
-ghost use Rattle.std.specs.List.{range_with_len};
+ghost use Rattle.std.specs.List.{range_with_len, list_all};
 ghost use Rattle.forms.specs.Meaning.{Balanced};
 ghost use Rattle.forms.specs.Roles.{role_of};
 ghost use Rattle.settlement.specs.ContractFaults.{PartiesKnown, contract_fits, place_fits};
 ghost use Rattle.settlement.specs.Holdings.{no_holding, contract_points, with_points, entry_of};
 ghost use Rattle.settlement.specs.Pool.{pool_of, distributed_by, distributors_withdrawn, facts_of, legs_of, leg_for, leg_in, contract_line, hour_of};
-ghost use Rattle.settlement.specs.Sums.{all_of};
 
 use crate::agents::Agent;
 use crate::holdings::Entry;
@@ -125,7 +124,7 @@ impl<F: ContractForm> HourPool<'_, F> {
 
     /// Puts the legs of every contract that covers the hour on the contract lines of its parties.
     fn put_contracts(&self, contracts: &[Option<Contract>], fresh: &mut [Entry])
-        requires fit { all_of (place_fits (F.meaning self.now.form.now) (24 * self.now.posting.stamp.days) self.now.posting.agents.now) contracts.now ≡ true }
+        requires fit { list_all (place_fits (F.meaning self.now.form.now) (24 * self.now.posting.stamp.days) self.now.posting.agents.now) contracts.now ≡ true }
         requires fresh_long { length fresh.old ≡ length self.now.posting.lines.now }
         ensures { (i : ℕ) → i < length fresh.old → slice_index_or fresh.new i no_holding ≡ with_points (contract_line (pool_of (F.meaning self.now.form.now) self.now.weekday self.now.posting.agents.now contracts.now) self.now.posting.stamp.hour self.now.posting.price self.now.posting.lines.now i) (slice_index_or fresh.old i no_holding) }
     {
@@ -156,7 +155,7 @@ impl MeasuredPosting<'_> {
         contracts: &[Option<Contract>],
         fresh: &mut [Entry],
     )
-        requires fit { all_of (place_fits (F.meaning form.now) (24 * self.now.stamp.days) self.now.agents.now) contracts.now ≡ true }
+        requires fit { list_all (place_fits (F.meaning form.now) (24 * self.now.stamp.days) self.now.agents.now) contracts.now ≡ true }
         requires fresh_long { length fresh.old ≡ length self.now.lines.now }
         ensures { fresh.new ≡ map (λ i. entry_of (hour_of (pool_of (F.meaning form.now) weekday self.now.agents.now contracts.now) self.now.stamp.hour self.now.price self.now.lines.now i)) (range_with_len 0 (length self.now.lines.now)) }
     {

@@ -1,7 +1,7 @@
 //! Which contracts may stand in a book.
 ghost use Rattle.std.specs.Prelude.{◌≡◌, length};
+ghost use Rattle.std.specs.List.{list_all};
 ghost use Rattle.settlement.specs.ContractFaults.{PartiesKnown, party_of, parties_of, in_book, contract_fits, place_fits, covers};
-ghost use Rattle.settlement.specs.Sums.{all_of};
 
 use crate::agents::Agent;
 use forms::{Contract, ContractForm, Parties, Party, is_valid};
@@ -70,7 +70,7 @@ impl<F: ContractForm> Admission<'_, F> {
 
     /// Whether what is in each contract place may stand there.
     pub fn may_all_stand(&self, contracts: &[Option<Contract>]) -> bool
-        ensures { result ≡ all_of (place_fits (F.meaning self.now.form.now) self.now.hours self.now.agents.now) contracts.now }
+        ensures { result ≡ list_all (place_fits (F.meaning self.now.form.now) self.now.hours self.now.agents.now) contracts.now }
     {
         contracts.iter().all(|place| self.is_place_fit(place))
     }

@@ -1,5 +1,6 @@
 -- Only what stands, asked of a book at its opening: all of it is done, and the same stands. Assumes nothing.
 use Rattle.std.proofs.Common.{◌≡◌, ℕ, zero, suc, ◌+◌, ◌-◌, ◌<◌, Bool, true, cond, not, ◌&&◌, ◌||◌, eqb, ltb, leb, List, [], ◌∷◌, ◌++◌, length, get_or, set, replicate, is_some, Some, None, Option, sym, refl, ap, ◌∙◌, subst, inl, inr, arith}
+use Rattle.std.specs.List.{list_all}
 use Rattle.std.specs.Option.{option_map}
 use Rattle.std.proofs.lemmas.List.{append_assoc, length_push, get_or_at, set_at}
 use Rattle.std.proofs.lemmas.Bool.{le-leb, lt-ltb, le-ltb, eq-eqb, ne_eqb, cases_eq, cases_order, and_parts, and_from, cond-true, cond-false}
@@ -9,7 +10,7 @@ use Rattle.settlement.specs.declared.faults.BookFault.TheVariants.{MissingHour, 
 use Rattle.settlement.specs.ContractFaults.{contract_fits, place_fits}
 use Rattle.settlement.specs.Faults.{met_if, first_met}
 use Rattle.settlement.specs.Power.{power_uncarried}
-use Rattle.settlement.specs.Sums.{all_of, first_failing}
+use Rattle.settlement.specs.Sums.{first_failing}
 use Rattle.settlement.proofs.Sums.{sum_to_same}
 use Rattle.standing.specs.Law.{is_done}
 use Rattle.standing.specs.Requests.{Opening, hours_in, Posting, Request, posting, withdrawal, entering, cancelling, closing, statement}
@@ -45,7 +46,7 @@ closing_same o s t same =
 
 -- from a standing they are all done, and leave another
 record Leads (form : Meaning) (o : Opening) (s : Standing) (requests : List Request) (left : Standing) : Type 0 where
-  all : all_of is_done (replies_from form o s requests) ≡ true
+  all : list_all is_done (replies_from form o s requests) ≡ true
   end : standing_after form o s requests ≡ left
 
 module _ (form : Meaning) (o : Opening) where
@@ -65,7 +66,7 @@ module _ (form : Meaning) (o : Opening) where
       let here : is_done (reply form o s r) ≡ true = (λ t. is_done (cond (asked t) (reply_to form o s r (none t)) skipped)) ∙ done_is s r in
       let then : next form o s r ≡ changed r s = λ t. cond (asked t && not (is_some (none t))) (changed r s) s in
       record {
-        all = and_from _ _ here (ap (λ u. all_of is_done (replies_from form o u rs)) then ∙ leads.all);
+        all = and_from _ _ here (ap (λ u. list_all is_done (replies_from form o u rs)) then ∙ leads.all);
         end = ap (λ u. standing_after form o u rs) then ∙ leads.end;
       }
 
@@ -73,7 +74,7 @@ module _ (form : Meaning) (o : Opening) where
   leads_append : (s : Standing) (rs qs : List Request) (between left : Standing) → Leads form o s rs between → Leads form o between qs left → Leads form o s (rs ++ qs) left
   leads_append s [] qs between left one two = subst (λ u. Leads form o u qs left) (sym one.end) two
   leads_append s (r ∷ rs) qs between left one two =
-      let parts = and_parts (is_done (reply form o s r)) (all_of is_done (replies_from form o (next form o s r) rs)) one.all in
+      let parts = and_parts (is_done (reply form o s r)) (list_all is_done (replies_from form o (next form o s r) rs)) one.all in
       let rest = leads_append (next form o s r) rs qs between left (record { all = parts.1; end = one.end }) two in
       record { all = and_from _ _ parts.0 rest.all; end = rest.end }
 
@@ -101,7 +102,7 @@ module _ (form : Meaning) (o : Opening) where
       (subst (λ places. Leads form o (entered ((front ++ (place ∷ [])) ++ blank)) requests (entered places)) (append_assoc front (place ∷ []) rest) leads)
 
   -- so the contracts of a list of places come to stand in it again, after those in front
-  entries_lead : (front rest : List (Option Contract)) (n : ℕ) → length front ≡ n → n + length rest ≡ 64 → all_of (place_fits form (hours_in o) o.agents) rest ≡ true →
+  entries_lead : (front rest : List (Option Contract)) (n : ℕ) → length front ≡ n → n + length rest ≡ 64 → list_all (place_fits form (hours_in o) o.agents) rest ≡ true →
       Leads form o (entered (front ++ replicate (length rest) None)) (entries_of (n + 1) rest) (entered (front ++ rest))
   entries_lead front [] n long few fit = record { all = refl; end = refl }
   entries_lead front (None ∷ rest) n long few fit =
@@ -109,7 +110,7 @@ module _ (form : Meaning) (o : Opening) where
       (entries_lead (front ++ (None ∷ [])) rest (n + 1) (length_push front None ∙ ap (λ k. k + 1) long) (omega arith) fit)
   entries_lead front (Some c ∷ rest) n long few fit =
       let blank : List (Option Contract) = replicate (length rest) None in
-      let parts = and_parts (contract_fits form (hours_in o) o.agents c) (all_of (place_fits form (hours_in o) o.agents) rest) fit in
+      let parts = and_parts (contract_fits form (hours_in o) o.agents c) (list_all (place_fits form (hours_in o) o.agents) rest) fit in
       let there : front ++ (Some c ∷ blank) ≡ set (front ++ (None ∷ blank)) (n + 1 - 1) (Some c) = sym (set_at front None blank (Some c) (n + 1 - 1) (omega arith)) in
       leads_more (entered (front ++ (None ∷ blank))) (entering (n + 1) c) (entries_of (n + 1 + 1) rest) (entered (front ++ (Some c ∷ rest))) refl
       (entering_fine front blank n c long (omega arith) parts.0)
@@ -194,7 +195,7 @@ module _ (form : Meaning) (o : Opening) where
         (postings_lead (hours_in o) 0 (omega arith)) (closing_lead s.state refl))
 
     -- every request is done
-    pub again_done : all_of is_done (replies_from form o nothing_stands (only_standing o s)) ≡ true
+    pub again_done : list_all is_done (replies_from form o nothing_stands (only_standing o s)) ≡ true
     again_done = again_leads.all
 
     -- and the same stands

@@ -1,5 +1,6 @@
 -- Nothing that is worked from what stands is too large for memory. Assumes nothing.
 use Rattle.std.proofs.Common.{◌≡◌, ℕ, ◌*◌, ◌<◌, ◌≤◌, true, leb, List, length, get_or, ℤ, nat_abs, Some, None, Option, refl, subst, arith, w64, SFits}
+use Rattle.std.specs.List.{list_all}
 use Rattle.std.proofs.lemmas.List.FromFn.{length-map-range_with_len}
 use Rattle.std.proofs.lemmas.Int.{ints}
 use Rattle.std.proofs.lemmas.Bool.{false≢true, and_parts, leb-true}
@@ -13,7 +14,7 @@ use Rattle.settlement.specs.Agents.{fits_role, agent_fits, no_agent}
 use Rattle.settlement.specs.Hour.{line_at, role_at, weight_for, market_line, overcost_line}
 use Rattle.settlement.specs.Pool.{Pool}
 use Rattle.settlement.specs.Power.{power_credit, power_due, power_weights, power_line}
-use Rattle.settlement.specs.Sums.{sum_to, all_of}
+use Rattle.settlement.specs.Sums.{sum_to}
 use Rattle.settlement.proofs.Bounds.{Within, excess_le, caused_le, carried_le}
 use Rattle.settlement.proofs.Checks.{all_each}
 use Rattle.settlement.proofs.Sums.{sum_to_const_zero, sum_to_le, sum_to_swap, sum_to_ℤ_abs, fits_abs}
@@ -66,7 +67,7 @@ power_within a None fits = absurd (false≢true fits)
 power_within a (Some role) fits =
     leb-true a.power 1000000 (and_parts (leb a.power 1000000) _ (and_parts (leb a.capacity 4000000) _ fits).1).0
 
-module _ (agents : List Agent) (few : length agents ≤ 64) (fit : all_of agent_fits agents ≡ true) where
+module _ (agents : List Agent) (few : length agents ≤ 64) (fit : list_all agent_fits agents ≡ true) where
   -- what an agent is credited
   pub power_credit_le : (i : ℕ) → i < length agents → power_credit agents i ≤ 57000000000
   power_credit_le i below =

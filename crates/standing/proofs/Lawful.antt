@@ -1,8 +1,7 @@
 -- The law over whole runs, from three books that were run as the rules say. Assumes nothing.
 use Rattle.std.proofs.Common.{◌≡◌, List, map, ℤ, neg_ℤ, sym, refl, ap, ◌∙◌}
-use Rattle.std.specs.List.{range_with_len}
+use Rattle.std.specs.List.{range_with_len, list_all}
 use Rattle.forms.specs.Meaning.{Meaning, Keeps, Alike}
-use Rattle.settlement.specs.Sums.{all_of}
 use Rattle.settlement.proofs.Sums.{map_counting_same}
 use Rattle.standing.specs.Law.{Book, Ran, Settled, unspoilt, is_done}
 use Rattle.standing.specs.Requests.{Opening, count_in, Request, without_contracts, told_without}
@@ -56,13 +55,13 @@ module _ (form : Meaning) (keeps : Keeps form) (o : Opening) (opened : Opened o)
     run_without = run_without;
     run_again = run_again;
     alike = ap (λ told. map manner_of (told_without requests told)) run.answers ∙ alike form o requests ∙ ap (map manner_of) (sym run_without.answers);
-    sound = ap (all_of unspoilt) run.answers ∙ unspoilt_told form o nothing_stands requests;
+    sound = ap (list_all unspoilt) run.answers ∙ unspoilt_told form o nothing_stands requests;
     left = left;
     balanced = run.together ∙ balanced form keeps o opened whole whole_sound ∙ ap neg_ℤ (sym left);
     balanced_without = run_without.together ∙ balanced form keeps o opened without (sound_after form o (without_contracts requests)) ∙ ap neg_ℤ (residue_without ∙ sym left);
     strangers = strangers form o requests;
     order = λ same alike other level i agent. order form keeps o opened whole whole_sound same alike (after same o other) level i;
-    repeated = ap (all_of is_done) run_again.answers ∙ again_done form o whole whole_sound;
+    repeated = ap (list_all is_done) run_again.answers ∙ again_done form o whole whole_sound;
     level = again_level form o whole whole_sound;
     same = run_again.stands ∙ statements_again ∙ sym run.stands;
   }

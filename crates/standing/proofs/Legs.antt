@@ -1,5 +1,6 @@
 -- The legs of contracts that may stand: their size, what they add up to, and that forms that are alike give the same. Assumes nothing.
 use Rattle.std.proofs.Common.{◌≡◌, ℕ, ◌+◌, ◌-◌, ◌*◌, ◌≤◌, Bool, true, false, cond, eqb, List, length, get_or, ℤ, pos, ◌+ℤ◌, nat_abs, Some, None, Option, refl, ap, ◌∙◌, subst, arith}
+use Rattle.std.specs.List.{list_all}
 use Rattle.std.proofs.lemmas.Int.{ints}
 use Rattle.std.proofs.lemmas.Bool.{both_ways, cond-true, cond-false, cond_both, eq-eqb, ne_eqb, eqb-true}
 use Rattle.std.proofs.lemmas.Bool.Decides.{nat_tests}
@@ -13,7 +14,7 @@ use Rattle.settlement.specs.Agents.{no_agent}
 use Rattle.settlement.specs.ContractFaults.{parties_of, contract_fits, place_fits, covers}
 use Rattle.settlement.specs.Pool.{pool_of, facts_of, legs_of, leg_for, leg_in, contract_line}
 use Rattle.settlement.specs.PostingFaults.{Measured}
-use Rattle.settlement.specs.Sums.{sum_to_ℤ, all_of}
+use Rattle.settlement.specs.Sums.{sum_to_ℤ}
 use Rattle.settlement.proofs.Sums.{sum_to_ℤ_change, sum_to_ℤ_const_zero, sum_to_ℤ_add}
 use Rattle.standing.proofs.Listed.{sum_of_same, sum_of_zero, sum_of_abs, sum_to_ℤ_sum_of}
 use Rattle.settlement.proofs.Settles.{fitting, settles}
@@ -102,7 +103,7 @@ module _ (form : Meaning) (keeps : Keeps form) (hours weekday hour price : ℕ) 
       let legs = alike.legs c parties facts (form.quantity c parties facts) (settled c fits) (keeps.quantity c parties facts (settled c fits)) in
       ap (λ both. cond (covers c hour) (leg_for c both i) (pos 0)) (legs ∙ ap (same.legs c parties facts) (alike.quantity c parties facts (settled c fits)))
 
-  module _ (places : List (Option Contract)) (fit : all_of (place_fits form hours agents) places ≡ true) where
+  module _ (places : List (Option Contract)) (fit : list_all (place_fits form hours agents) places ≡ true) where
     -- the size of a contract line
     pub contract_line_abs : (i : ℕ) → nat_abs (contract_line (pool_of form weekday agents places) hour price lines i) ≤ length places * 200000000000
     contract_line_abs i = sum_of_abs (place_fits form hours agents) places fit (leg_in form weekday agents hour price lines i) 200000000000 (leg_in_abs i)

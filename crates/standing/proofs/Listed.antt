@@ -1,11 +1,12 @@
 -- Sums over the items of a list: equal ones, bounds, sums of sums, and lists that hold each contract equally often. Assumes nothing.
 use Rattle.std.proofs.Common.{◌≡◌, ℕ, ◌+◌, ◌*◌, ◌≤◌, Bool, true, cond, ◌&&◌, eqb, List, [], ◌∷◌, length, ℤ, pos, ◌+ℤ◌, nat_abs, Some, None, Option, sym, refl, ap, ◌∙◌, inl, inr, suc-mul, arith}
+use Rattle.std.specs.List.{list_all}
 use Rattle.std.proofs.lemmas.Int.{ints}
 use Rattle.std.proofs.lemmas.Bool.{and_parts, eqb-true, eq-eqb, cases_Bool, cond-true, cond-false}
 use Rattle.forms.specs.declared.Contract.{Contract}
 use Rattle.forms.specs.declared.Delivery.{Delivery}
 use Rattle.forms.specs.declared.Delivery.TheVariants.{MarketBar, SellerNode, BuyerNode}
-use Rattle.settlement.specs.Sums.{sum_to_ℤ, sum_of, all_of}
+use Rattle.settlement.specs.Sums.{sum_to_ℤ, sum_of}
 use Rattle.settlement.proofs.Sums.{sum_to_ℤ_const_zero, sum_to_ℤ_add}
 use Rattle.standing.specs.Standing.{same_contract, is_contract, times_in}
 
@@ -13,21 +14,21 @@ use Rattle.standing.specs.Standing.{same_contract, is_contract, times_in}
 
 module _ {X : Type 0} (test : X → Bool) where
   -- the same summands
-  pub sum_of_same : (xs : List X) → all_of test xs ≡ true → (f g : X → ℤ) → ((x : X) → test x ≡ true → f x ≡ g x) → sum_of f xs ≡ sum_of g xs
+  pub sum_of_same : (xs : List X) → list_all test xs ≡ true → (f g : X → ℤ) → ((x : X) → test x ≡ true → f x ≡ g x) → sum_of f xs ≡ sum_of g xs
   sum_of_same [] all f g same = refl
-  sum_of_same (x ∷ xs) all f g same = let parts = and_parts (test x) (all_of test xs) all in cc (same x parts.0, sum_of_same xs parts.1 f g same)
+  sum_of_same (x ∷ xs) all f g same = let parts = and_parts (test x) (list_all test xs) all in cc (same x parts.0, sum_of_same xs parts.1 f g same)
 
   -- zeros
-  pub sum_of_zero : (xs : List X) → all_of test xs ≡ true → (f : X → ℤ) → ((x : X) → test x ≡ true → f x ≡ pos 0) → sum_of f xs ≡ pos 0
+  pub sum_of_zero : (xs : List X) → list_all test xs ≡ true → (f : X → ℤ) → ((x : X) → test x ≡ true → f x ≡ pos 0) → sum_of f xs ≡ pos 0
   sum_of_zero [] all f zeros = refl
   sum_of_zero (x ∷ xs) all f zeros =
-      let parts = and_parts (test x) (all_of test xs) all in omega (arith, ints, zeros x parts.0, sum_of_zero xs parts.1 f zeros)
+      let parts = and_parts (test x) (list_all test xs) all in omega (arith, ints, zeros x parts.0, sum_of_zero xs parts.1 f zeros)
 
   -- the size of a sum, regardless of its sign
-  pub sum_of_abs : (xs : List X) → all_of test xs ≡ true → (f : X → ℤ) (most : ℕ) → ((x : X) → test x ≡ true → nat_abs (f x) ≤ most) → nat_abs (sum_of f xs) ≤ length xs * most
+  pub sum_of_abs : (xs : List X) → list_all test xs ≡ true → (f : X → ℤ) (most : ℕ) → ((x : X) → test x ≡ true → nat_abs (f x) ≤ most) → nat_abs (sum_of f xs) ≤ length xs * most
   sum_of_abs [] all f most each = omega arith
   sum_of_abs (x ∷ xs) all f most each =
-      let parts = and_parts (test x) (all_of test xs) all in
+      let parts = and_parts (test x) (list_all test xs) all in
       omega (arith, ints, suc-mul (length xs) most, each x parts.0, sum_of_abs xs parts.1 f most each)
 
 -- the sums over a list, all together, are the sum of its items' sums

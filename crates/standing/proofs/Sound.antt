@@ -1,9 +1,9 @@
 -- What an accepted opening and what stands after any requests are known to be. Assumes nothing.
 use Rattle.std.proofs.Common.{◌≡◌, ℕ, ◌<◌, ◌≤◌, true, length, Some, None}
+use Rattle.std.specs.List.{list_all}
 use Rattle.forms.specs.Meaning.{Meaning}
 use Rattle.settlement.specs.Agents.{agent_fits}
 use Rattle.settlement.specs.ContractFaults.{place_fits}
-use Rattle.settlement.specs.Sums.{all_of}
 use Rattle.standing.specs.Requests.{Opening, count_in, hours_in, Posting}
 use Rattle.standing.specs.Standing.{Standing, closed, posting_fault, closing_fault}
 
@@ -14,7 +14,7 @@ pub record Opened (o : Opening) : Type 0 where
   pub some_days : 1 ≤ o.days
   pub few_days : o.days ≤ 31
   pub weekday : o.weekday ≤ 6
-  pub agents : all_of agent_fits o.agents ≡ true
+  pub agents : list_all agent_fits o.agents ≡ true
 
 -- a posting of an hour meets no fault
 abbrev pub Faultless : Opening → ℕ → Posting → Type 0
@@ -24,5 +24,5 @@ Faultless o hour p = posting_fault o hour p ≡ None
 pub record Sound (form : Meaning) (o : Opening) (s : Standing) : Type 0 where
   pub postings : (hour : ℕ) (p : Posting) → hour < hours_in o → s.posted hour ≡ Some p → Faultless o hour p
   pub long : length s.places ≡ 64
-  pub contracts : all_of (place_fits form (hours_in o) o.agents) s.places ≡ true
+  pub contracts : list_all (place_fits form (hours_in o) o.agents) s.places ≡ true
   pub closable : s.state ≡ closed → closing_fault o s ≡ None

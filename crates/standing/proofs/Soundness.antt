@@ -1,12 +1,12 @@
 -- What stands after any requests is sound: the faults let nothing else in. Assumes nothing.
 use Rattle.std.proofs.Common.{◌≡◌, ℕ, zero, suc, ◌-◌, ◌<◌, Bool, true, false, cond, not, eqb, List, [], ◌∷◌, set, is_some, Some, None, Option, sym, refl, ◌∙◌, subst}
+use Rattle.std.specs.List.{list_all}
 use Rattle.std.proofs.lemmas.List.{length-set}
 use Rattle.std.proofs.lemmas.Bool.{false≢true, not-true, not-false, eqb-true, and_parts, and_from, cond_both}
 use Rattle.forms.specs.declared.Contract.{Contract}
 use Rattle.forms.specs.Meaning.{Meaning}
 use Rattle.settlement.specs.ContractFaults.{contract_fits, place_fits, taken_fault, terms_fault}
 use Rattle.settlement.specs.Faults.{first_met}
-use Rattle.settlement.specs.Sums.{all_of}
 use Rattle.settlement.proofs.Measured.{unmet}
 use Rattle.standing.specs.Requests.{Opening, hours_in, Posting, Request, posting, withdrawal, entering, cancelling, closing, statement}
 use Rattle.standing.specs.Standing.{closed, Standing, nothing_stands, standing_with, placed_with, fault_met, can_ask, changed, is_accepted, next, standing_after, after}
@@ -23,12 +23,12 @@ first_met_none None rows none = (refl, none)
 first_met_none (Some fault) rows none = (cc, cc)
 
 -- a list that passes still does with one item that passes in another's place
-pub all_of_set : {X : Type 0} (test : X → Bool) (xs : List X) (i : ℕ) (x : X) → all_of test xs ≡ true → test x ≡ true → all_of test (set xs i x) ≡ true
+pub all_of_set : {X : Type 0} (test : X → Bool) (xs : List X) (i : ℕ) (x : X) → list_all test xs ≡ true → test x ≡ true → list_all test (set xs i x) ≡ true
 all_of_set test [] i x all passes = refl
-all_of_set test (y ∷ ys) zero x all passes = and_from (test x) (all_of test ys) passes (and_parts (test y) (all_of test ys) all).1
+all_of_set test (y ∷ ys) zero x all passes = and_from (test x) (list_all test ys) passes (and_parts (test y) (list_all test ys) all).1
 all_of_set test (y ∷ ys) (suc i) x all passes =
-    let parts = and_parts (test y) (all_of test ys) all in
-    and_from (test y) (all_of test (set ys i x)) parts.0 (all_of_set test ys i x parts.1 passes)
+    let parts = and_parts (test y) (list_all test ys) all in
+    and_from (test y) (list_all test (set ys i x)) parts.0 (all_of_set test ys i x parts.1 passes)
 
 module _ (form : Meaning) (o : Opening) where
   -- what a request leaves: what it changes, where there is a way to ask it and it meets no fault, or what stood

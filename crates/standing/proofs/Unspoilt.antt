@@ -1,5 +1,6 @@
 -- No request is refused for a stored figure outside its limit: no table of faults has that one. Assumes nothing.
 use Rattle.std.proofs.Common.{◌≡◌, ℕ, Bool, true, false, cond, not, ◌||◌, eqb, ltb, List, [], ◌∷◌, Some, None, Option, refl}
+use Rattle.std.specs.List.{list_all}
 use Rattle.std.specs.Option.{option_map}
 use Rattle.std.proofs.lemmas.Bool.{and_from}
 use Rattle.forms.specs.declared.Contract.{Contract}
@@ -12,7 +13,7 @@ use Rattle.settlement.specs.ContractFaults.{taken_fault, vacant_fault, terms_fau
 use Rattle.settlement.specs.Faults.{number_of, met_if, first_met, of_posting}
 use Rattle.settlement.specs.PostingFaults.{hour_fault, line_fault, uncarried}
 use Rattle.settlement.specs.Power.{power_uncarried}
-use Rattle.settlement.specs.Sums.{all_of, first_failing}
+use Rattle.settlement.specs.Sums.{first_failing}
 use Rattle.standing.specs.Law.{unspoilt}
 use Rattle.standing.specs.Requests.{Opening, count_in, hours_in, Request, posting, withdrawal, entering, cancelling, closing, statement}
 use Rattle.standing.specs.Standing.{Standing, stands, withdrawn_of, fault_met, can_ask, next}
@@ -93,6 +94,6 @@ module _ (form : Meaning) (o : Opening) where
   told_fine s (statement agent) true None is = refl
 
   -- whatever is asked, and whatever stands
-  pub unspoilt_told : (s : Standing) (requests : List Request) → all_of unspoilt (replies_from form o s requests) ≡ true
+  pub unspoilt_told : (s : Standing) (requests : List Request) → list_all unspoilt (replies_from form o s requests) ≡ true
   unspoilt_told s [] = refl
   unspoilt_told s (r ∷ rs) = and_from _ _ (told_fine s r (can_ask s.state r) (fault_met form o s r) (fault_fine s r).is) (unspoilt_told (next form o s r) rs)

@@ -1,9 +1,8 @@
 -- The law over whole runs: a statement follows from what stands. Assumes nothing.
 use Rattle.std.specs.Prelude.{◌≡◌, ℕ, ◌<◌, Bool, true, false, not, List, map, ℤ, neg_ℤ, ◌==◌}
-use Rattle.std.specs.List.{range_with_len}
+use Rattle.std.specs.List.{range_with_len, list_all}
 use Rattle.forms.specs.Meaning.{Meaning, Alike}
 use Rattle.settlement.specs.Faults.{number_of}
-use Rattle.settlement.specs.Sums.{all_of}
 use Rattle.standing.specs.Requests.{Opening, count_in, Request, without_contracts, told_without}
 use Rattle.standing.specs.Standing.{nothing_stands, after, only_standing, Level, party_to}
 use Rattle.standing.specs.Worked.{Worked, worked, balances_after, residue_after, Reply, accepted, stated, refused, skipped, replies_from, manner_of}
@@ -46,7 +45,7 @@ pub record Settled (form : Meaning) (o : Opening) (requests : List Request) (fir
   -- requests that the first two both heard were answered alike, refusals with the same number and place
   pub alike : map manner_of (told_without requests first.told) ≡ map manner_of second.told
   -- what is stored was never found outside its limits
-  pub sound : all_of unspoilt first.told ≡ true
+  pub sound : list_all unspoilt first.told ≡ true
   -- the residue is worked from the postings of the standing hours alone, and all balances together are minus the residue, with contracts and
   -- without
   pub left : residue ≡ residue_after o (after form o requests)
@@ -58,6 +57,6 @@ pub record Settled (form : Meaning) (o : Opening) (requests : List Request) (fir
   -- same statement
   pub order : (same : Meaning) → Alike form same → (other : List Request) → Level o (after form o requests) (after same o other) → (i : ℕ) → i < count_in o → worked same o (after same o other) i ≡ worked form o (after form o requests) i
   -- the third book accepted all that it heard, and the same stands in it, so that every agent has the same statement
-  pub repeated : all_of is_done third.told ≡ true
+  pub repeated : list_all is_done third.told ≡ true
   pub level : Level o (after form o requests) (after form o (only_standing o (after form o requests)))
   pub same : third.statements ≡ first.statements

@@ -39,9 +39,8 @@ fn marks_fit(marks: &[u8]) -> bool
 fn energies_fit(most: u64, holdings: &[Entry]) -> bool
     ensures { result ≡ list_all (energy_within most) holdings.now }
 {
-    holdings
-        .iter()
-        .all(|holding| holding.second.injected <= most && holding.second.withdrawn <= most)
+    holdings.iter().all(|holding| holding.second.injected <= most
+        && holding.second.withdrawn <= most)
 }
 
 /// The withdrawn energy of all accounts.
