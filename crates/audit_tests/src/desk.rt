@@ -23,13 +23,15 @@ pub(crate) struct Setting {
     pub(crate) statements: usize,
 }
 
-/// A refusal's number and place, or 0 and 0; and the balance, where a statement was given.
+/// A refusal, by its number and place.
 #[derive(Clone, Copy, PartialEq, Eq, Debug)]
-pub(crate) struct Told {
+pub(crate) struct Refusal {
     pub(crate) number: u32,
     pub(crate) place: u32,
-    pub(crate) balance: i64,
 }
+
+/// What a call was answered: the balance, where a statement was given.
+pub(crate) type Told = Result<Option<i64>, Refusal>;
 
 /// The numbers of a statement.
 #[derive(Clone, Copy, PartialEq, Eq, Debug)]
@@ -54,11 +56,7 @@ pub(crate) struct Outcome {
 }
 
 /// Nothing refused, and no statement given.
-pub(crate) const DONE: Told = Told {
-    number: 0,
-    place: 0,
-    balance: 0,
-};
+pub(crate) const DONE: Told = Ok(None);
 
 const AGENTS: [Agent; 2] = [
     Agent {
@@ -90,20 +88,19 @@ fn calls_of(heap: Global, steps: &[Step]) -> Result<Vec<Call>, AllocError> {
     Ok(calls)
 }
 
-impl From<Answer> for Told {
-    fn from(answer: Answer) -> Told {
-        match answer {
-            Ok(Done::Accepted) => DONE,
-            Ok(Done::Stated(statement)) => Told {
-                balance: statement.balance,
-                ..DONE
-            },
-            Err(fault) => Told {
-                number: fault.number(),
-                place: fault.place(),
-                balance: 0,
-            },
+impl From<BookFault> for Refusal {
+    fn from(fault: BookFault) -> Refusal {
+        Refusal {
+            number: fault.number(),
+            place: fault.place(),
         }
+    }
+}
+
+fn told_of(answer: Answer) -> Told {
+    match answer? {
+        Done::Accepted => Ok(None),
+        Done::Stated(statement) => Ok(Some(statement.balance)),
     }
 }
 
@@ -158,7 +155,7 @@ fn settle(
 fn came_to(settled: Result<Totals, BookFault>, statements: &[Statement; 3]) -> Outcome {
     let (fault, balances, residue) = match settled {
         Ok(totals) => (DONE, totals.balances, totals.residue),
-        Err(fault) => (Told::from(Err(fault)), 0, 0),
+        Err(fault) => (told_of(Err(fault)), 0, 0),
     };
     Outcome {
         fault,
@@ -191,6 +188,6 @@ pub(crate) fn audited(
         &mut answers[0..setting.answers.min(8)],
         &mut statements[0..setting.statements.min(3)],
     );
-    *told = answers.map(Told::from);
+    *told = answers.map(told_of);
     Ok(came_to(result, &statements))
 }

@@ -1,4 +1,4 @@
-use crate::desk::{DONE, Outcome, Row, Setting, Step, Told, audited};
+use crate::desk::{DONE, Outcome, Refusal, Row, Setting, Step, audited};
 use book::Line;
 use std::test::Fail;
 
@@ -209,23 +209,24 @@ fn each_call_is_answered(rt: HostRuntime) -> Result<(), Fail> {
         Step::Statement(2),
     ];
     let wanted = [
-        Told {
+        Err(Refusal {
             number: 9,
             place: 3,
-            ..DONE
-        },
-        Told {
+        }),
+        Err(Refusal {
             number: 4,
             place: 24,
-            ..DONE
-        },
-        Told { number: 5, ..DONE },
+        }),
+        Err(Refusal {
+            number: 5,
+            place: 0,
+        }),
         DONE,
-        Told {
-            balance: -593_640,
-            ..DONE
-        },
-        Told { number: 3, ..DONE },
+        Ok(Some(-593_640)),
+        Err(Refusal {
+            number: 3,
+            place: 0,
+        }),
         DONE,
         DONE,
     ];
@@ -328,7 +329,7 @@ fn an_audit_that_does_not_fit_is_refused(rt: HostRuntime) -> Result<(), Fail> {
     let mut told = [DONE; 8];
     for (setting, number) in cases {
         let wanted = Outcome {
-            fault: Told { number, ..DONE },
+            fault: Err(Refusal { number, place: 0 }),
             ..EMPTY
         };
         assert_eq!(rt;

@@ -30,16 +30,6 @@ fn fill_peaks(month: &[Entry], peaks: &mut [Peak])
     }
 }
 
-/// The peak of an agent's month; the peaks of its hours are scratch memory.
-fn highest(month: &[Entry], peaks: &mut [Peak]) -> Peak
-    requires same { length peaks.old ≡ length month.now }
-    requires few { length month.now ≤ 744 }
-    ensures { result ≡ peak_over (length month.now) (λ hour. slice_index_or month.now hour no_holding) }
-{
-    fill_peaks(month, peaks);
-    fold(peaks)
-}
-
 /// The peak of the `hours` entries from `first` on.
 fn month_peak(entries: &[Entry], first: usize, hours: usize) -> Peak
     requires within { first + hours ≤ length entries.now }
@@ -48,7 +38,9 @@ fn month_peak(entries: &[Entry], first: usize, hours: usize) -> Peak
 {
     // Kept as an array: the library allocates nothing, and the one fold takes a slice.
     let mut peaks = [Peak::neutral(); MOST_HOURS];
-    highest(&entries[first..first + hours], &mut peaks[0..hours])
+    let peaks = &mut peaks[..hours];
+    fill_peaks(&entries[first..first + hours], peaks);
+    fold(peaks)
 }
 
 /// The sum of the four lines.

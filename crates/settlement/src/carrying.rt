@@ -64,6 +64,7 @@ fn is_uncarried_by<C: Carried>(carried: &C, weights: &mut [u32]) -> bool
 pub(crate) fn is_uncarried<C: Carried>(carried: &C) -> bool
     ensures { result ≡ (nat_lt 0 (C.points carried.now) && sum (weights_in (C.agents carried.now) (C.weight carried.now)) == 0) }
 {
+    // Kept as an array, here and in `fill_parts`: the library allocates nothing.
     let mut weights = [0u32; 64];
     is_uncarried_by(carried, &mut weights[..carried.agents()])
 }

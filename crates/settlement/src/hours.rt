@@ -114,6 +114,7 @@ impl MeasuredPosting<'_> {
         requires { length fresh.old ≡ length self.now.lines.now }
         ensures { fresh.new ≡ map (λ i. entry_of (own_of self.now.agents.now self.now.price self.now.lines.now i)) (range_with_len 0 (length self.now.lines.now)) }
     {
+        // Kept as an array: the library allocates nothing.
         let mut parts = [0u64; 64];
         self.fill_entries_by(&mut parts[..self.lines.len()], fresh);
     }

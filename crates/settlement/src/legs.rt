@@ -16,6 +16,7 @@ use forms::{Contract, ContractForm, ContractHour, Facts, Legs, Role, settle_hour
 use tally::{Energy, Money, Pair, Tally};
 
 /// An entry with points on its contract line alone.
+// Kept beside `power_points`: each is one literal, and one function for both would be given all four lines.
 fn contract_points(points: i64) -> Entry
     ensures { result ≡ contract_points points }
 {
@@ -73,6 +74,7 @@ impl Agent {
 #[derive(Drop)]
 struct HourPool<'a, F> {
     form: &'a F,
+    // Kept as a number, as in `fill_hour`: any number was taken there, and a `Weekday` would ask more of its callers.
     weekday: u32,
     posting: MeasuredPosting<'a>,
     distributors: u32,

@@ -116,6 +116,7 @@ pub fn charge_power(agents: &[Agent], accounts: &mut [Entry])
     requires within { sum_by (λ account. account.second.withdrawn) accounts.old ≤ 2976000000 }
     ensures { accounts.new ≡ map (λ i. holding_joined (slice_index_or accounts.old i no_holding) (power_points (power_line agents.now (withdrawn_on accounts.old) i))) (range_with_len 0 (length accounts.old)) }
 {
+    // Kept as an array: the library allocates nothing.
     let mut parts = [0u64; 64];
     let parts = &mut parts[..agents.len()];
     fill_parts(&Month { agents, accounts }, parts);

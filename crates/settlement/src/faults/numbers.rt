@@ -5,6 +5,8 @@ ghost use Rattle.settlement.specs.Faults.{line_number, line_place, number_of, pl
 
 use crate::faults::{BookFault, LineFault};
 
+// Kept as numbers: bookkeepers look faults up by number and place, and the place of a fault that has none is 0 by the rules.
+
 impl LineFault {
     /// The fault's number.
     pub fn number(&self) -> u32

@@ -23,5 +23,5 @@ returns c =
     let entries = c.args.entries.now in
     let first = c.args.first in
     let hours = c.args.hours in
-    c.highest.ensures
+    c.fold.ensures ∙ ap (total no_peak peak_joined) c.fill_peaks.ensures
     ∙ part_peak entries first hours (omega (arith, length-take (first + hours - first) (drop first entries), length-drop first entries, c.requires.within))
