@@ -48,7 +48,7 @@ pub(crate) fn replay(
     ensures told { answers.new ≡ answers_to (figures_of month.now) calls.now (memory_in pool.now ledger.old) }
     ensures holds { memory_in pool.now ledger.new ≡ memory_after (figures_of month.now) calls.now (memory_in pool.now ledger.old) }
 {
-    // Kept: a zip with `answers.iter_mut()` was tried, and a proof then knows nothing of the answers.
+    // Kept by index: in a `for` over a zip with `iter_mut` (tried) nothing is known of what was written, and `iter_mut().enumerate()` is no plainer, since it reads the calls by index.
     for (i, call) in calls.iter().enumerate() {
         answers[i] = answer(month, call, pool, ledger);
     }

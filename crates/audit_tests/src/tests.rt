@@ -228,7 +228,7 @@ fn each_call_is_answered(rt: HostRuntime) -> Result<(), Fail> {
             place: 0,
         }),
         DONE,
-        DONE,
+        Ok(Some(0)),
     ];
     let mut told = [DONE; 8];
     assert_eq!(rt; audited(rt.alloc(), right(8), &steps, &mut told)?, EMPTY);

@@ -18,7 +18,7 @@ pub struct Pool<'p> {
 #[derive(Drop)]
 pub struct Ledger<'l> {
     pub accounts: &'l mut [Account],
-    // Kept: a mark is a byte of lent memory, which may hold any number, and one above 1 is a fault to be told.
+    // Kept as bytes, since this is lent memory: it may hold any number, and one above 1 is a fault to be told.
     pub marks: &'l mut [u8],
     pub entries: &'l mut [Entry],
 }

@@ -21,6 +21,6 @@ pub struct OpenMonth {
 pub struct MonthFigures {
     pub agents: u32,
     pub days: u32,
-    // Kept as a number: the host fills it in, and a figure above 6 is a fault to be told.
+    // Kept as a number by the rule that any figure is answered: one above 6 is a fault to be told.
     pub weekday: u32,
 }

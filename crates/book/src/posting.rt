@@ -12,7 +12,7 @@ use crate::rewrites::replace_hour;
 use settlement::{Account, BookFault, Entry, Line, MeasuredPosting};
 use tally::{Pair, Tally};
 
-// Kept as numbers, as the marks of lent memory are.
+// Kept as numbers, as the marks of lent memory are (fixed memory).
 
 /// The mark of an hour at which nothing stands.
 const FREE: u8 = 0;
@@ -38,6 +38,7 @@ fn write_posting(
 }
 
 /// Posts an hour: its price, and a line for each agent. The posting of an hour that is posted already corrects it.
+// Kept apart: a struct of hour, price and lines is no plainer, since it would be made at each call and taken apart at once.
 pub fn post(
     month: &OpenMonth,
     hour: u32,

@@ -30,7 +30,7 @@ pub(crate) fn replace_hour(
     ensures entries { entries.new ≡ entries_with (hours_of stamp.days) stamp.hour (λ i. slice_index_or fresh.now i no_holding) entries.old }
     ensures accounts { accounts.new ≡ accounts_with (hours_of stamp.days) stamp.hour (λ i. slice_index_or fresh.now i no_holding) entries.old accounts.old }
 {
-    // Kept by index: an hour's entries lie a month apart, and a zip with `iter_mut` leaves nothing known of what it writes.
+    // Kept by index: accounts and entries are both written, and the entries of an hour lie a month apart, so a chain over three slices is no plainer.
     for (i, new) in fresh.iter().enumerate() {
         let at = stamp.place(i as u32);
         replace_entry(&mut accounts[i], &mut entries[at], *new);

@@ -24,7 +24,7 @@ fn fill_peaks(month: &[Entry], peaks: &mut [Peak])
     requires few { length month.now ≤ 744 }
     ensures { peaks.new ≡ map (λ hour. peak_of (slice_index_or month.now hour no_holding).second.withdrawn hour) (range_with_len 0 (length month.now)) }
 {
-    // Kept by index: of the peaks that a zip with `iter_mut` writes, a proof knows nothing afterwards.
+    // Kept by index: in a `for` over a zip with `iter_mut` (tried) nothing is known of what was written, and `iter_mut().enumerate()` is no plainer, since it reads the month by index.
     for (hour, entry) in month.iter().enumerate() {
         peaks[hour] = Peak::of(entry.second.withdrawn, hour as u32);
     }

@@ -1,6 +1,7 @@
 //! Memory for a book of two agents and one day, with a place more of each kind, and one call on it.
+use crate::slices::post_in;
 use book::{
-    Agent, BookFault, Entry, Ledger, Line, MonthFigures, OpenMonth, Pool, day_total, open, post,
+    Agent, BookFault, Entry, Ledger, Line, MonthFigures, OpenMonth, Pool, day_total, open,
     provisional, withdraw,
 };
 use forms::Contract;
@@ -146,7 +147,17 @@ fn call(
     ledger: &mut Ledger<'_>,
 ) -> Result<(), BookFault> {
     match trial {
-        Trial::Post => post(month, 23, 50_000, &[LINE, LINE], pool, ledger),
+        Trial::Post => post_in(
+            month,
+            23,
+            50_000,
+            &[LINE, LINE],
+            pool.agents,
+            ledger.accounts,
+            pool.contracts,
+            ledger.marks,
+            ledger.entries,
+        ),
         Trial::Withdraw => withdraw(month, 0, pool, ledger),
         Trial::Statement => {
             provisional(month, 2, &ledger.view(pool))?;

@@ -4,4 +4,6 @@
 #[cfg(test)]
 mod desk;
 #[cfg(test)]
+mod slices;
+#[cfg(test)]
 mod tests;

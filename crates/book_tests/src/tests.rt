@@ -1,5 +1,6 @@
 use crate::desk::{Damage, RIGHT, Refusal, Sizes, Told, Trial, tried};
-use book::Agent;
+use book::{Agent, BookFault, LineFault};
+use std::test::Fail;
 
 const CALLS: [Trial; 4] = [Trial::Post, Trial::Withdraw, Trial::Statement, Trial::Day];
 
@@ -164,4 +165,58 @@ fn a_wrong_size_is_answered_before_a_stored_figure(rt: HostRuntime) {
             WRONG_SIZE
         );
     }
+}
+
+#[test]
+fn faults_are_told_in_words(rt: HostRuntime) -> Result<(), Fail> {
+    let cases = [
+        (BookFault::WrongSize, "memory of the wrong size"),
+        (
+            BookFault::StoredOutside,
+            "a stored figure is outside its limit",
+        ),
+        (
+            BookFault::OutsideBook,
+            "a figure of the opening or the statement's agent is outside the book's limits",
+        ),
+        (
+            BookFault::Posting(LineFault::HourOutside(24)),
+            "the hour is outside the month",
+        ),
+        (
+            BookFault::Posting(LineFault::OutsideLimit(1)),
+            "the line count, the price or a figure of the line is outside its limit",
+        ),
+        (
+            BookFault::Posting(LineFault::BreaksRule(1)),
+            "the line breaks a rule on class, cause, gross or cost",
+        ),
+        (
+            BookFault::Posting(LineFault::TooMuchTogether),
+            "all injected or all withdrawn energy together is above the limit",
+        ),
+        (
+            BookFault::NoCarrier,
+            "obligated excess and no withdrawn energy carries it",
+        ),
+        (BookFault::FreeHour(3), "the hour is free"),
+        (BookFault::MissingHour(3), "an hour of the month is missing"),
+        (
+            BookFault::NoPowerCarrier,
+            "power is due and no withdrawn energy carries it",
+        ),
+        (
+            BookFault::ContractNumber,
+            "the contract number is outside 1 to 64, taken or not standing",
+        ),
+        (
+            BookFault::ContractTerms,
+            "the contract's parties, hours, figures or terms do not fit",
+        ),
+        (BookFault::CoveredHour(3), "a covered hour stands"),
+    ];
+    for (fault, words) in cases {
+        assert_eq!(rt; fault.to_string(rt.alloc())?.as_str(), words);
+    }
+    Ok(())
 }

@@ -1,5 +1,6 @@
 -- The roles of agents. Assumes nothing.
-use Rattle.std.specs.Prelude.{◌≡◌, ℕ, Bool, true, false, cond, Some, None, Option, Result, MatchResult, ◌==◌}
+use Rattle.std.specs.Prelude.{◌≡◌, ℕ, Bool, true, false, cond, Some, None, Option, Result, MatchResult, ◌==◌, List, ◌++◌, codes}
+use Rattle.std.specs.Fmt.{decimal}
 use Rattle.forms.specs.declared.roles.Role.{Role}
 use Rattle.forms.specs.declared.roles.Role.TheVariants.{Generator, Distributor, Consumer}
 use Rattle.forms.specs.declared.roles.UnknownRole.{UnknownRole}
@@ -11,6 +12,10 @@ role_of code = cond (code == 1) (Some Generator) (cond (code == 2) (Some Distrib
 -- a number is turned into the role that it names, or, where it names none, into an error that carries it
 abbrev pub NamesRole : ℕ → Result Role UnknownRole → Type 0
 NamesRole code answer = MatchResult answer (λ role. role_of code ≡ Some role) (λ unknown. (role_of code ≡ None) × (unknown.0 ≡ code))
+
+-- what is printed of a number that names no role
+abbrev pub unknown_role_text : UnknownRole → List ℕ
+unknown_role_text unknown = codes "no role has number " ++ decimal unknown.0
 
 -- a generator may be obligated or forced to run, and is paid for power
 abbrev pub generates : Role → Bool

@@ -14,7 +14,7 @@ use calendar::Band;
 pub struct Block;
 
 /// The kind of a block.
-// Kept as a number, as a contract's kind is.
+// Kept as a number by the rule that kinds are open.
 pub(crate) const BLOCK_KIND: u32 = 1;
 
 /// The contract's quantity in a band.

@@ -10,7 +10,7 @@ use crate::{Contract, Legs, Parties};
 // Kept: three tests of the kind, since one that hands out a form of either type would need an enum with three matches of its own.
 #[derive(Clone, Copy)]
 pub struct ByKind<A, B> {
-    // Kept: a number, since a contract's kind is one.
+    // Kept as a number by the rule that kinds are open.
     pub kind: u32,
     pub first: A,
     pub second: B,

@@ -49,7 +49,7 @@ pub enum Delivery {
 #[derive(Clone, Copy, PartialEq, Eq, Debug)]
 pub struct Contract {
     pub delivery: Delivery,
-    // Kept: a number, and no enum of kinds, since whoever writes a form chooses the kind that it takes.
+    // Kept as a number by the rule that kinds are open: whoever writes a form chooses the kind that it takes.
     pub kind: u32,
     pub seller: u32,
     pub buyer: u32,
@@ -65,7 +65,7 @@ pub struct Contract {
 /// A party to a contract: its role (1 generator, 2 distributor, 3 large consumer) and its capacity in kilowatt-hours of an hour.
 #[derive(Clone, Copy)]
 pub struct Party {
-    // Kept: a number, since any figure must be answerable; `known_role` gives the role that it names.
+    // Kept as a number by the rule that any figure is answered; `known_role` gives the role that it names.
     pub role: u32,
     pub capacity: u32,
 }

@@ -1,6 +1,6 @@
 //! The roles of agents.
-ghost use Rattle.std.specs.Prelude.{◌≡◌};
-ghost use Rattle.forms.specs.Roles.{NamesRole, role_of, generates, carries, may_sell};
+ghost use Rattle.std.specs.Prelude.{◌≡◌, Some};
+ghost use Rattle.forms.specs.Roles.{NamesRole, role_of, generates, carries, may_sell, unknown_role_text};
 
 use crate::Party;
 use std::error::Error;
@@ -34,6 +34,8 @@ impl TryFrom<u32> for Role {
 }
 
 impl fmt::Display for UnknownRole {
+    ghost output = { λ unknown. Some (unknown_role_text unknown) };
+
     fn fmt<W: fmt::Write>(&self, f: &mut fmt::Formatter<W>) -> fmt::Result {
         write!(f, "no role has number {}", self.0)
     }

@@ -15,7 +15,7 @@ use crate::{Contract, Facts, Legs, Parties};
 pub struct Share;
 
 /// The kind of a share.
-// Kept as a number, as a contract's kind is.
+// Kept as a number by the rule that kinds are open.
 const SHARE_KIND: u32 = 2;
 
 /// The buyer's share of the injected energy.

@@ -13,7 +13,7 @@ use valuation::cost_amount;
 pub struct DailyProfile;
 
 /// The kind of a daily profile.
-// Kept as a number, as a contract's kind is.
+// Kept as a number by the rule that kinds are open.
 pub const PROFILE_KIND: u32 = 3;
 
 /// What is left of a base quantity in a band.

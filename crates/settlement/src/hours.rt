@@ -103,7 +103,7 @@ impl MeasuredPosting<'_> {
         ensures { fresh.new ≡ map (λ i. entry_of (own_of self.now.agents.now self.now.price self.now.lines.now i)) (range_with_len 0 (length self.now.lines.now)) }
     {
         fill_parts(self, parts);
-        // Kept by index: over a `zip` with `iter_mut`, nothing ties what was written to the slice at the return, and the proof did not close.
+        // Kept by index: in a `for` over a zip with `iter_mut` (tried) nothing is known of what was written, and `iter_mut().enumerate()` is no plainer, since it reads lines and parts by index.
         for (i, line) in self.lines.iter().enumerate() {
             fresh[i] = self.priced(line).entry(self.caused_excess(i), parts[i]);
         }

@@ -74,7 +74,7 @@ impl Agent {
 #[derive(Drop)]
 struct HourPool<'a, F> {
     form: &'a F,
-    // Kept as a number, as in `fill_hour`: any number was taken there, and a `Weekday` would ask more of its callers.
+    // Kept as a number, as in `fill_hour`, by the rule that any figure is answered.
     weekday: u32,
     posting: MeasuredPosting<'a>,
     distributors: u32,

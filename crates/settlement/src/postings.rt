@@ -23,6 +23,7 @@ pub struct MeasuredPosting<'a> {
 }
 
 /// The stamp of an hour of the month, or a refusal where it lies outside.
+// Kept as a clause, here and in `check_posting`: a type for up to 31 days is no plainer, since an open month holds its days as a figure of its own.
 pub fn check_hour(days: u32, hour: u32) -> Result<HourStamp, LineFault>
     requires { days ≤ 31 }
     ensures fault { result_err result ≡ hour_fault (24 * days) hour }

@@ -103,7 +103,7 @@ fn charge_parts(agents: &[Agent], parts: &[u64], accounts: &mut [Entry])
     requires due_within { power_due agents.now ≤ 1000000000000000000 }
     ensures { accounts.new ≡ map (λ i. holding_joined (slice_index_or accounts.old i no_holding) (power_points (power_line agents.now (withdrawn_on accounts.old) i))) (range_with_len 0 (length accounts.old)) }
 {
-    // Kept by index: over a `zip` with `iter_mut`, nothing ties what was written to the slice at the return, and the proof did not close.
+    // Kept by index: in a `for` over a zip with `iter_mut` (tried) nothing is known of what was written, and `iter_mut().enumerate()` is no plainer, since it reads agents and parts by index.
     for (i, agent) in agents.iter().enumerate() {
         put_power(&mut accounts[i], power_credit(agent), parts[i]);
     }

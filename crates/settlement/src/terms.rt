@@ -25,7 +25,7 @@ fn is_in_book(agents: &[Agent], number: u32) -> bool
 
 /// The two parties to a contract, both agents of the book.
 pub(crate) fn parties(agents: &[Agent], contract: Contract) -> Parties
-    // Kept as one named fact: a contract's own type knows no book, so it cannot keep the fact itself.
+    // Kept as one named fact: a type is no plainer, since a contract knows no book, and a struct of both would be made and taken apart again.
     requires { PartiesKnown (length agents.now) contract }
     ensures { result ≡ parties_of agents.now contract }
 {

@@ -19,7 +19,7 @@ fn to_points(units: u64, per_point: u64) -> u64
     (units + per_point / 2) / per_point
 }
 
-// Kept as limits of raw figures, here and in `excess`: callers hold figures, and a narrower type would ask more of them.
+// Kept as clauses, here and in `excess`: types for price, factor and energy are no plainer, since every caller holds the figures raw and would wrap each at each call.
 
 /// The amount of `energy` kWh at a node factor and a price, in points.
 #[tactic(auto, using(crate::proofs::Amounts::product_le))]

@@ -81,7 +81,7 @@ pub fn share(points: u64, weights: &[u32], parts: &mut [u64])
         total: u64::from(total),
         before: 0,
     };
-    // Kept by index: of what is written through `iter_mut` beside another iterator, nothing is known after.
+    // Kept by index: in a `for` over a zip with `iter_mut` (tried) nothing is known of what was written, and `iter_mut().enumerate()` is no plainer, since it reads the weights by index.
     for (i, weight) in weights.iter().enumerate() {
         parts[i] = split.next_part(u64::from(*weight));
     }

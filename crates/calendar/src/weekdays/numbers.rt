@@ -17,7 +17,7 @@ impl Weekday {
     }
 
     /// The weekday with this number, which is at most 6.
-    // Kept beside `try_from`: who knows that the number is below 7 has no error to answer.
+    // Kept beside `try_from`, which is no plainer for who knows that the number is below 7 and has no error to answer.
     pub fn at_number(number: u32) -> Weekday
         ensures { result ≡ weekday_at number }
     {

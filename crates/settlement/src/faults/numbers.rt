@@ -5,7 +5,7 @@ ghost use Rattle.settlement.specs.Faults.{line_number, line_place, number_of, pl
 
 use crate::faults::{BookFault, LineFault};
 
-// Kept as numbers: bookkeepers look faults up by number and place, and the place of a fault that has none is 0 by the rules.
+// Kept as numbers by the rules of the pool: bookkeepers look faults up by number and place, and a fault that has no place is told at 0.
 
 impl LineFault {
     /// The fault's number.
@@ -74,7 +74,7 @@ impl BookFault {
 }
 
 /// A posting's own fault is carried whole.
-// Kept by hand: what a derive writes for `#[from]` has no contract, and `check_posting`'s callers name the error that `?` makes.
+// Kept by hand: `#[from]` is no plainer for who proves, since it has no contract, and clauses name the error that `?` makes.
 impl From<LineFault> for BookFault {
     ghost from_gives = { λ fault r. r ≡ Posting fault };
 
