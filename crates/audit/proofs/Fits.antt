@@ -1,8 +1,10 @@
 -- Memory that holds what stands has its size and keeps every limit. Assumes nothing.
-use Rattle.std.proofs.Common.{◌≡◌, ℕ, suc, ◌/◌, ◌%◌, ◌^◌, ◌<◌, ◌≤◌, Bool, true, not, ◌&&◌, leb, List, [], ◌∷◌, length, get_or, Some, None, Option, sym, refl, ap, ◌∙◌, mod-eq_of_lt, arith}
+use Rattle.std.proofs.Common.{◌≡◌, ℕ, ◌/◌, ◌%◌, ◌^◌, ◌<◌, ◌≤◌, true, not, ◌&&◌, leb, List, ◌∷◌, length, get_or, Some, None, Option, sym, refl, ap, ◌∙◌, mod-eq_of_lt, arith}
 use Rattle.std.specs.List.{list_all}
 use native.Mathlib.Nat.{mod-le}
 use Rattle.std.proofs.lemmas.Nat.{div-add-mod', div_below, mod_below}
+use Rattle.std.proofs.lemmas.List.Elements.{All-from_get_or}
+use Rattle.std.proofs.lemmas.List.Sums.{list_all-from_AllPass}
 use Rattle.std.proofs.lemmas.Bool.{and_from, eq-eqb, le-leb}
 use Rattle.settlement.specs.declared.faults.BookFault.{BookFault}
 use Rattle.settlement.specs.declared.faults.BookFault.TheVariants.{WrongSize, StoredOutside}
@@ -18,11 +20,6 @@ use Rattle.audit.proofs.Bounds.{injected_le, withdrawn_le, injected_of_le, withd
 use Rattle.audit.proofs.Holds.{Holds, mark_for}
 use Rattle.audit.proofs.Sound.{Opened, Sound}
 use Rattle.settlement.proofs.Sums.{sum_to_same, sum_by_list}
-
--- a test that each place of a list passes
-all_from : {X : Type 0} (test : X → Bool) (xs : List X) (d : X) → ((k : ℕ) → k < length xs → test (get_or xs k d) ≡ true) → list_all test xs ≡ true
-all_from test [] d each = refl
-all_from test (x ∷ xs) d each = and_from (test x) _ (each 0 (omega arith)) (all_from test xs d (λ k l. each (suc k) (omega arith)))
 
 -- a mark is 0 or 1
 mark_fits_lem : (p : Option Posting) → mark_fits (mark_for p) ≡ true
@@ -43,28 +40,28 @@ module _ (o : Opening) (opened : Opened o) (s : Standing) (sound : Sound o s) (m
       (and_from _ _ (eq-eqb _ _ holds.marks_long) (eq-eqb _ _ holds.entries_long))))
 
   marks_fit : list_all mark_fits m.marks ≡ true
-  marks_fit = all_from mark_fits m.marks 0 (λ k l. ap mark_fits (holds.marks k (omega arith)) ∙ mark_fits_lem (s.posted k))
+  marks_fit = list_all-from_AllPass mark_fits m.marks (All-from_get_or (λ x. mark_fits x ≡ true) m.marks 0 (λ k l. ap mark_fits (holds.marks k (omega arith)) ∙ mark_fits_lem (s.posted k)))
 
   -- each entry is that of an agent and an hour
   entries_fit : list_all (energy_within 4000000) m.entries ≡ true
   entries_fit =
-      all_from (energy_within 4000000) m.entries no_holding
-      (λ k l.
+      list_all-from_AllPass (energy_within 4000000) m.entries
+      (All-from_get_or (λ x. energy_within 4000000 x ≡ true) m.entries no_holding (λ k l.
       let some_hours : 0 < hours_in o = omega arith in
       let i : ℕ = k / hours_in o in
       let hour : ℕ = k % hours_in o in
       let agent : i < count_in o = div_below k (hours_in o) (count_in o) some_hours (omega arith) in
       let within : hour < hours_in o = mod_below k (hours_in o) some_hours in
       ap (energy_within 4000000) (ap (λ n. get_or m.entries n no_holding) (sym (div-add-mod' k (hours_in o))) ∙ holds.entries i hour agent within)
-      ∙ energy_fits 4000000 _ _ (injected_le o opened s sound i hour agent within) (withdrawn_le o opened s sound i hour agent within))
+      ∙ energy_fits 4000000 _ _ (injected_le o opened s sound i hour agent within) (withdrawn_le o opened s sound i hour agent within)))
 
   accounts_fit : list_all (energy_within 2976000000) m.accounts ≡ true
   accounts_fit =
-      all_from (energy_within 2976000000) m.accounts no_holding
-      (λ i l.
+      list_all-from_AllPass (energy_within 2976000000) m.accounts
+      (All-from_get_or (λ x. energy_within 2976000000 x ≡ true) m.accounts no_holding (λ i l.
       let agent : i < count_in o = omega arith in
       ap (energy_within 2976000000) (holds.accounts i agent)
-      ∙ energy_fits 2976000000 _ _ (injected_of_le o opened s sound i agent) (withdrawn_of_le o opened s sound i agent))
+      ∙ energy_fits 2976000000 _ _ (injected_of_le o opened s sound i agent) (withdrawn_of_le o opened s sound i agent)))
 
   all_withdrawn_lem : all_withdrawn m.accounts ≡ sum_to (count_in o) (λ i. withdrawn_of o s i)
   all_withdrawn_lem =

@@ -39,7 +39,7 @@ pub fn audit(
     ensures memory { OnOk result (memory_with agents.now contracts.new ledger.new ≡ memory_after figures calls.now (emptied (memory_with agents.now contracts.old ledger.old))) }
     ensures settled { IfOk result (λ totals. Settled (opening_of figures.days figures.weekday agents.now) (map request_of calls.now) (map reply_of answers.new) (map worked_in statements.new) totals.balances totals.residue) }
 {
-    // Kept: calls and answers lie apart, since the host lends the answers' places (no heap, fixed memory).
+    // Kept: calls and answers lie apart, and agents and statements, since the host lends the places (no heap, fixed memory).
     if answers.len() != calls.len() || statements.len() != agents.len() {
         return Err(BookFault::WrongSize);
     }

@@ -11,6 +11,8 @@ use crate::calls::{Answer, Call};
 use book::Line;
 use valuation::amount;
 
+// Kept as a clause of three functions: a type for a bounded residue is no plainer, since each would be taken apart for its sum.
+
 /// The residue of a posting: what all withdrawn energy is worth less what all injected energy is.
 fn posting_residue(price: u32, lines: &[Line]) -> i64
     requires { Measured price lines.now }

@@ -17,10 +17,6 @@ place_within hours hour n i within below = omega (arith, mul-add-lt i hours hour
 pub month_within : (hours n i : ℕ) → i < n → i * hours + hours ≤ n * hours
 month_within hours n i below = omega (arith, mul-le-mul_right hours below, add-mul i 1 hours, ap (λ k. k * hours) (add-one i))
 
--- and each day of it
-pub day_within : (days day n i : ℕ) → day < days → i < n → i * (24 * days) + 24 * day + 24 ≤ n * (24 * days)
-day_within days day n i inside below = omega (arith, month_within (24 * days) n i below)
-
 module _ (hours hour : ℕ) (within : hour < hours) (fresh before : List Holding) where
   -- the agents before i have their new entry
   abbrev pub Rewritten : ℕ → List Holding → Type 0

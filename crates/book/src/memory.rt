@@ -14,6 +14,9 @@ pub struct Pool<'p> {
     pub contracts: &'p [Option<Contract>],
 }
 
+// Kept as slices side by side, the entries agent after agent, since this is memory that the host lends. That a ledger still lends the
+// same places stands in each contract, since no type can say it of a loan.
+
 /// What postings write: an account per agent, a mark per hour, and an entry per agent and hour, agent after agent.
 #[derive(Drop)]
 pub struct Ledger<'l> {

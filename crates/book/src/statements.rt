@@ -1,5 +1,10 @@
 //! The statement of an agent.
-use tally::{Energy, Money, Peak};
+ghost use Rattle.std.specs.Prelude.{◌≡◌};
+ghost use Rattle.tally.specs.Peak.{no_peak};
+ghost use Rattle.settlement.specs.Holdings.{no_holding};
+ghost use Rattle.book.specs.Calls.{statement_of};
+
+use tally::{Energy, Money, Peak, Tally};
 
 /// An agent's month: four lines, their sum, the energies, and the hour of its highest withdrawal.
 #[derive(Clone, Copy, PartialEq, Eq, Debug)]
@@ -8,4 +13,18 @@ pub struct Statement {
     pub balance: i64,
     pub energy: Energy,
     pub peak: Peak,
+}
+
+impl Statement {
+    /// The statement of an agent of whom nothing stands.
+    pub fn blank() -> Statement
+        ensures { result ≡ statement_of no_holding no_peak }
+    {
+        Statement {
+            lines: Money::neutral(),
+            balance: 0,
+            energy: Energy::neutral(),
+            peak: Peak::neutral(),
+        }
+    }
 }

@@ -13,7 +13,7 @@ use crate::memory::View;
 use crate::months::OpenMonth;
 use crate::statements::Statement;
 use settlement::{Account, BookFault, Entry};
-use tally::{Money, Peak, Tally, fold};
+use tally::{Money, Peak, Tally, fold, fold_day};
 
 /// The most hours of a month.
 const MOST_HOURS: usize = 744;
@@ -87,14 +87,6 @@ pub fn provisional(
     Ok(statement(view.accounts[index], peak))
 }
 
-/// The total of the twenty-four entries from `first` on.
-fn day_from(entries: &[Entry], first: usize) -> Entry
-    requires { first + 24 ≤ length entries.now }
-    ensures { result ≡ total no_holding holding_joined (take 24 (drop first entries.now)) }
-{
-    fold(&entries[first..first + 24])
-}
-
 /// The total of an agent's day, both counted from 1: the twenty-four entries from its first hour on, folded.
 pub fn day_total(
     month: &OpenMonth,
@@ -109,7 +101,6 @@ pub fn day_total(
     if agent == 0 || agent > figures.agents || day == 0 || day > figures.days {
         return Err(BookFault::OutsideBook);
     }
-    let hours = 24 * figures.days as usize;
-    let first = (agent - 1) as usize * hours + 24 * (day - 1) as usize;
-    Ok(day_from(view.entries, first))
+    let days_before = (agent - 1) as usize * figures.days as usize + (day - 1) as usize;
+    Ok(fold_day(view.entries, days_before))
 }

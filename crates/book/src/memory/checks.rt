@@ -49,11 +49,10 @@ fn all_withdrawn(accounts: &[Account]) -> u64
     requires fit { list_all (energy_within 2976000000) accounts.now ≡ true }
     ensures { result ≡ all_withdrawn accounts.now }
 {
-    let mut sum = 0;
-    for account in accounts {
-        sum += account.second.withdrawn;
-    }
-    sum
+    accounts
+        .iter()
+        .map(|account| account.second.withdrawn)
+        .sum()
 }
 
 impl View<'_, '_> {

@@ -1,4 +1,7 @@
-use Rattle.std.proofs.Common.{◌≡◌, ◌+◌, ◌-◌, ◌*◌, ◌<◌, ◌≤◌, ◌||◌, eqb, ltb, length, None, sym, ap, ◌∙◌, subst, arith}
+use Rattle.std.proofs.Common.{◌≡◌, ◌+◌, ◌-◌, ◌*◌, ◌≤◌, ◌||◌, eqb, ltb, take, drop, None, ap, ◌∙◌, arith}
+use Rattle.std.proofs.Math.Nat.{mul_left_comm}
+use Rattle.tally.specs.Total.{total}
+use Rattle.settlement.specs.Holdings.{no_holding, holding_joined}
 use Rattle.std.proofs.lemmas.Result.{err_from_is_err_and}
 use Rattle.std.proofs.lemmas.Bool.{or_from, ne_eqb, le-ltb}
 use Rattle.settlement.specs.declared.faults.BookFault.TheVariants.{OutsideBook}
@@ -7,8 +10,7 @@ use Rattle.book.specs.Calls.{day_sum}
 use Rattle.settlement.specs.Faults.{met_if}
 use Rattle.book.specs.Lent.{memory_seen}
 use Rattle.book.specs.Months.{figures_of}
-use Rattle.book.proofs.Columns.{day_within}
-use Rattle.book.proofs.Tables.{look_refused, look_accepted, entries_sized}
+use Rattle.book.proofs.Tables.{look_refused, look_accepted}
 use Rattle.book.proofs.views.day_total.Goals as goal
 
 pub returns-in_err-check : goal.returns-in_err-check
@@ -16,19 +18,6 @@ returns-in_err-check c =
     let m = memory_seen c.args.view.now in
     let p = err_from_is_err_and c.from_residual.result c.from_residual.ensures.1 in
     rw (p.1, p.2) (look_refused (figures_of c.args.month.now) m _ _ _ c.in_err-check.ensures)
-
-pub day_from-requires : goal.day_from-requires
-day_from-requires c =
-    let m = memory_seen c.args.view.now in
-    let month = c.args.month.now in
-    let i = c.args.agent - 1 in
-    let day = c.args.day - 1 in
-    let is = c.figures-figures.ensures in
-    let inside : i < month.agents = omega (arith, ap (λ (f : MonthFigures). f.agents) is, c.if-agent-figures.false, c.if-agent-eq0.false) in
-    let known : day < month.days = omega (arith, ap (λ (f : MonthFigures). f.days) is, c.if-day-figures.false, c.if-day-eq0.false) in
-    let size = entries_sized (figures_of month) m c.in_ok-check.ensures in
-    let within : i * (24 * month.days) + 24 * day + 24 ≤ length c.args.view.now.entries.now = omega (arith, size, day_within month.days day month.agents i known inside) in
-    subst (λ (f : MonthFigures). i * (24 * f.days) + 24 * day + 24 ≤ length c.args.view.now.entries.now) (sym is) within
 
 pub returns : goal.returns
 returns c =
@@ -42,5 +31,7 @@ returns c =
     let known : met_if ((eqb c.args.agent 0 || ltb month.agents c.args.agent) || (eqb c.args.day 0 || ltb month.days c.args.day)) OutsideBook ≡ None =
     ap (λ b. met_if b OutsideBook)
     (or_from _ _ (or_from _ _ (ne_eqb _ _ c.if-agent-eq0.false) (le-ltb _ _ agents_most)) (or_from _ _ (ne_eqb _ _ c.if-day-eq0.false) (le-ltb _ _ days_most))) in
-    look_accepted (figures_of month) m _ (day_sum (24 * month.days) i day c.args.view.now.entries.now) c.day_from.result c.in_ok-check.ensures known
-    (c.day_from.ensures ∙ ap (λ (f : MonthFigures). day_sum (24 * f.days) i day c.args.view.now.entries.now) is)
+    let place : 24 * (i * c.figures-figures.result.days + day) ≡ i * (24 * month.days) + 24 * day =
+    omega (arith, mul_left_comm i 24 month.days, ap (λ (f : MonthFigures). i * f.days) is) in
+    look_accepted (figures_of month) m _ (day_sum (24 * month.days) i day c.args.view.now.entries.now) c.fold_day.result c.in_ok-check.ensures known
+    (c.fold_day.ensures ∙ ap (λ n. total no_holding holding_joined (take 24 (drop n c.args.view.now.entries.now))) place)

@@ -1,29 +1,22 @@
-use Rattle.std.proofs.Common.{◌≤◌, ap, ◌∙◌, arith}
-use Rattle.std.proofs.lemmas.List.{take_all}
-use Rattle.std.proofs.lemmas.List.Sums.{sum_by_more}
+use Rattle.std.proofs.Common.{◌≡◌, ◌*◌, ◌≤◌, true, length, sum_by, arith, rules}
+use Rattle.std.proofs.lemmas.Iterator.{YieldsList-from_slice, YieldsList-from_map}
+use Rattle.std.proofs.lemmas.Iterator.Consumers.{fits_by_from_yields_list}
+use Rattle.std.proofs.lemmas.List.Elements.{All-weaker}
+use Rattle.std.proofs.lemmas.List.Sums.{sum_by-le, AllPass-from_list_all}
 use Rattle.std.proofs.lemmas.Bool.{and_parts, leb-true}
 use Rattle.settlement.specs.Holdings.{Holding}
-use Rattle.book.specs.Memory.{energy_within, all_withdrawn}
-use Rattle.settlement.proofs.Checks.{all_each}
+use Rattle.book.specs.Memory.{energy_within}
 use Rattle.book.proofs.memory.checks.all_withdrawn.Goals as goal
 
--- the withdrawn energy of the account at hand is within its limit
-within : (c : goal.After-account-item) → c.account-item.result.second.withdrawn ≤ 2976000000
-within c =
-    let item = c.account-item.result in
-    let fits = ap (energy_within 2976000000) c.account-item.is ∙ all_each (energy_within 2976000000) c.args.accounts.now c.loop-account.account-index item c.requires.fit c.loop-account-test.true in
-    leb-true _ _ (and_parts _ _ fits).1
+-- a holding whose energies are within a limit has withdrawn no more
+withdrawn_within : (holding : Holding) → energy_within 2976000000 holding ≡ true → holding.second.withdrawn ≤ 2976000000
+withdrawn_within holding fits = leb-true _ _ (and_parts _ _ fits).1
 
-pub overflow_add-sum : goal.overflow_add-sum
-overflow_add-sum c = let h = within c in record { fits = omega (arith, c.loop-account.invariant.1, c.requires.few) }
-
-pub loop-account-preserved : goal.loop-account-preserved
-loop-account-preserved c =
-    let item = c.account-item.result in
-    let h = within c in
-    let more = sum_by_more (λ (a : Holding). a.second.withdrawn) c.args.accounts.now c.loop-account.account-index item c.loop-account-test.true in
-    let read = ap (λ (a : Holding). a.second.withdrawn) c.account-item.is in
-    (omega (arith, c.loop-account.invariant.0, more, read), omega (arith, c.loop-account.invariant.1))
-
-pub returns : goal.returns
-returns c = c.loop-account.invariant.0 ∙ ap all_withdrawn (take_all c.loop-account.account-index c.args.accounts.now c.loop-account-test.false)
+pub sum-requires-clause-fits : goal.sum-requires-clause-fits
+sum-requires-clause-fits c =
+    let accounts = c.args.accounts.now in
+    let most : sum_by (λ (a : Holding). a.second.withdrawn) accounts ≤ length accounts * 2976000000 =
+    sum_by-le _ 2976000000 accounts (All-weaker _ _ withdrawn_within accounts (AllPass-from_list_all (energy_within 2976000000) accounts c.requires.fit)) in
+    fits_by_from_yields_list (λ (a : Holding). a.second.withdrawn) accounts c.map.result _
+    (YieldsList-from_map _ (λ (a : Holding). a.second.withdrawn) (YieldsList-from_slice accounts cc) c.map.ensures.closure (λ x r q k. search rules))
+    (omega (arith, most, c.requires.few))
