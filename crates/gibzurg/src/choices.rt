@@ -16,7 +16,7 @@ const WEEKDAYS: [&str; 7] = [
 ];
 
 /// What an agent may be, counted from 1.
-pub(crate) const ROLES: [&str; 3] = ["generator", "distributor", "consumer"];
+const ROLES: [&str; 3] = ["generator", "distributor", "consumer"];
 
 /// What a line may be, counted from 1.
 const CLASSES: [&str; 3] = ["normal", "obligated", "forced"];

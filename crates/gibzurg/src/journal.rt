@@ -5,7 +5,7 @@ use crate::fields::Fields;
 use book::{Agent, Line, MonthFigures};
 
 /// What one journal line says.
-#[derive(Clone, Copy)]
+#[derive(Clone, Copy, Debug, PartialEq)]
 pub(crate) enum Entry {
     /// A call to make.
     Call(Request),
@@ -16,7 +16,7 @@ pub(crate) enum Entry {
 }
 
 /// A call that a journal asks for. The agents of an opening and the lines of a posting follow it.
-#[derive(Clone, Copy)]
+#[derive(Clone, Copy, Debug, PartialEq)]
 pub(crate) enum Request {
     Open(MonthFigures),
     Post { hour: u32, price: u32 },

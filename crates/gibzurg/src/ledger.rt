@@ -1,9 +1,9 @@
 //! A book with the memory that the program lends it.
 use crate::expected::Expected;
 use crate::words::Provisional;
-use audit::{Answer, Call, Done, Posting, Totals};
+use audit::{Answer, Call, Done, Totals};
 use book::{Account, Agent, BookFault, Entry, MonthFigures, OpenMonth, Pool, Statement};
-use forms::Contract;
+use forms::{Contract, Role};
 use std::alloc::{AllocError, Global};
 use tally::{Energy, Money, Pair, Peak, Tally};
 
@@ -46,6 +46,7 @@ fn blank_statement() -> Statement {
 }
 
 /// How many accounts, contract places, marks and entries a book has.
+// Kept beside the book's own limits: the program lends the memory before the book looks at the figures, and the book hands out no sizes.
 #[derive(Clone, Copy, Default)]
 struct Sizes {
     accounts: usize,
@@ -126,53 +127,34 @@ impl Ledger {
     /// Opens a book in memory of its own.
     pub(crate) fn open(heap: Global, opening: Opening) -> Heard<Ledger> {
         let mut memory = Memory::new(heap, opening.figures)?;
-        match book::open(
+        let opened = book::open(
             opening.figures,
             &opening.agents,
             &mut memory.contracts,
             &mut memory.records.lend(),
-        ) {
-            Ok(month) => Ok(Ok(Ledger {
-                heap,
-                month,
-                opening,
-                memory,
-                calls: Vec::new(heap),
-            })),
-            Err(fault) => Ok(Err(fault)),
-        }
-    }
-
-    /// Posts an hour.
-    pub(crate) fn post(&mut self, posting: Posting) -> Heard<()> {
-        let pool = Pool {
-            agents: &self.opening.agents,
-            contracts: &self.memory.contracts,
-        };
-        let answer = book::post(
-            &self.month,
-            posting.hour,
-            posting.price,
-            &posting.lines,
-            &pool,
-            &mut self.memory.records.lend(),
         );
-        self.calls.push(Call::Post(posting))?;
-        Ok(answer)
+        Ok(opened.map(|month| Ledger {
+            heap,
+            month,
+            opening,
+            memory,
+            calls: Vec::new(heap),
+        }))
     }
 
-    /// Withdraws an hour.
-    pub(crate) fn withdraw(&mut self, hour: u32) -> Heard<()> {
+    /// Makes a call, and notes it.
+    pub(crate) fn call(&mut self, call: Call) -> Heard<Done> {
         let pool = Pool {
             agents: &self.opening.agents,
             contracts: &self.memory.contracts,
         };
-        let answer = book::withdraw(&self.month, hour, &pool, &mut self.memory.records.lend());
-        self.calls.push(Call::Withdraw(hour))?;
+        let answer = audit::answer(&self.month, &call, &pool, &mut self.memory.records.lend());
+        self.calls.push(call)?;
         Ok(answer)
     }
 
     /// The provisional statement of an agent.
+    // Kept beside `call`, which is no plainer here: the statement would have to be taken out of a `Done` that may hold none.
     pub(crate) fn provisional(&mut self, agent: u32) -> Heard<Provisional> {
         let pool = Pool {
             agents: &self.opening.agents,
@@ -194,10 +176,11 @@ impl Ledger {
         self.opening.figures.agents
     }
 
-    /// The role of an agent, where the book has one of the number.
-    fn role(&self, agent: u32) -> Option<u32> {
+    /// The role of an agent, where the book has the agent and its number names a role.
+    fn role(&self, agent: u32) -> Option<Role> {
         let place = (agent as usize).checked_sub(1)?;
-        self.opening.agents.get(place).map(|found| found.role)
+        let found = self.opening.agents.get(place)?;
+        Role::try_from(found.role).ok()
     }
 
     /// Settles the same calls again in other memory, for the totals.

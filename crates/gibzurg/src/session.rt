@@ -2,10 +2,10 @@
 use crate::expected::Expected;
 use crate::journal;
 use crate::journal::{Entry, Request};
-use crate::ledger::{Heard, Ledger, Opening};
+use crate::ledger::{Ledger, Opening};
 use crate::trouble::Trouble;
 use crate::words::{Heading, Reply, Totals, Undone};
-use audit::Posting;
+use audit::{Call, Posting};
 use book::{Agent, BookFault, Line};
 use std::fmt::Display;
 
@@ -132,11 +132,7 @@ impl<'a> Session<'a> {
                 Ok(())
             }
             Request::Withdraw { hour } => {
-                self.call(
-                    voice,
-                    Heading::Withdraw(hour),
-                    |ledger| ledger.withdraw(hour),
-                )
+                self.call(voice, Heading::Withdraw(hour), Call::Withdraw(hour))
             }
             Request::Statement { agent } => self.statement(voice, agent),
             Request::Statements => self.statements(voice),
@@ -184,13 +180,9 @@ impl<'a> Session<'a> {
     /// Opens a book in the place of the one before.
     fn open(&mut self, voice: Voice, opening: Opening) -> Result<(), Trouble> {
         retire(self.book.take());
-        let outcome = match Ledger::open(voice.rt.alloc(), opening)? {
-            Ok(ledger) => {
-                retire(self.book.replace(ledger));
-                Ok(())
-            }
-            Err(fault) => Err(Undone::Refused(fault)),
-        };
+        let outcome = Ledger::open(voice.rt.alloc(), opening)?
+            .map(|ledger| retire(self.book.replace(ledger)))
+            .map_err(Undone::Refused);
         voice.say(Heading::Open, outcome)
     }
 
@@ -199,7 +191,7 @@ impl<'a> Session<'a> {
         match self.begun.take() {
             Some(Begun::Posting(voice, posting)) => {
                 let heading = Heading::Post(posting.hour);
-                self.call(voice, heading, |ledger| ledger.post(posting))
+                self.call(voice, heading, Call::Post(posting))
             }
             begun => {
                 self.begun = begun;
@@ -209,16 +201,9 @@ impl<'a> Session<'a> {
     }
 
     /// Makes a call on the open book, and says how it went.
-    fn call<F: FnOnce(&mut Ledger) -> Heard<()> + Drop>(
-        &mut self,
-        voice: Voice,
-        heading: Heading,
-        work: F,
-    ) -> Result<(), Trouble>
-        requires { F.IsAlwaysCallable work }
-    {
+    fn call(&mut self, voice: Voice, heading: Heading, call: Call) -> Result<(), Trouble> {
         let outcome = match &mut self.book {
-            Some(ledger) => work(ledger)?.map_err(Undone::Refused),
+            Some(ledger) => ledger.call(call)?.map(|_| ()).map_err(Undone::Refused),
             None => Err(Undone::NoBook),
         };
         voice.say(heading, outcome)
@@ -247,6 +232,6 @@ impl<'a> Session<'a> {
         for agent in 1..=ledger.count() {
             voice.tell(Heading::Statement(agent), ledger.provisional(agent)?)?;
         }
-        voice.tell(heading, ledger.totals()?.map(Totals::from))
+        voice.tell(heading, ledger.totals()?.map(Totals))
     }
 }

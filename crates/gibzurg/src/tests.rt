@@ -7,46 +7,8 @@ use crate::numbers::number;
 use crate::trouble::Trouble;
 use crate::words::{Heading, Reply, Totals, Undone};
 use crate::{journal, session};
-use book::BookFault;
+use book::{Agent, BookFault, Line, MonthFigures};
 use std::test::Fail;
-
-/// The case and the figures of an entry, or of a line that says nothing.
-fn figures(entry: Option<Entry>) -> [u32; 8] {
-    match entry {
-        None => [0; 8],
-        Some(Entry::Call(request)) => asked(request),
-        Some(Entry::Agent(number, agent)) => [
-            2,
-            number,
-            agent.role,
-            agent.capacity,
-            agent.power,
-            0,
-            0,
-            0,
-        ],
-        Some(Entry::Line(line)) => [
-            4,
-            line.class,
-            line.cause,
-            line.injected,
-            line.withdrawn,
-            line.gross,
-            line.factor,
-            line.cost,
-        ],
-    }
-}
-
-fn asked(request: Request) -> [u32; 8] {
-    match request {
-        Request::Open(figures) => [1, figures.agents, figures.days, figures.weekday, 0, 0, 0, 0],
-        Request::Post { hour, price } => [3, hour, price, 0, 0, 0, 0, 0],
-        Request::Withdraw { hour } => [5, hour, 0, 0, 0, 0, 0, 0],
-        Request::Statement { agent } => [6, agent, 0, 0, 0, 0, 0, 0],
-        Request::Statements => [7, 0, 0, 0, 0, 0, 0, 0],
-    }
-}
 
 #[test]
 fn reads_numbers(rt: HostRuntime) {
@@ -69,50 +31,85 @@ fn reads_numbers(rt: HostRuntime) {
 }
 
 #[test]
-fn reads_lines(rt: HostRuntime) -> Result<(), Fail> {
+fn reads_lines(rt: HostRuntime) {
     let lines = [
-        ("", [0, 0, 0, 0, 0, 0, 0, 0]),
-        ("   ", [0, 0, 0, 0, 0, 0, 0, 0]),
-        ("# open", [0, 0, 0, 0, 0, 0, 0, 0]),
+        ("", None),
+        ("   ", None),
+        ("# open", None),
         (
             "open agents 2 days 1 weekday monday",
-            [1, 2, 1, 0, 0, 0, 0, 0],
+            Some(Entry::Call(Request::Open(MonthFigures {
+                agents: 2,
+                days: 1,
+                weekday: 0,
+            }))),
         ),
         (
             "open agents 4294967295 days 99 weekday sunday",
-            [1, 4294967295, 99, 6, 0, 0, 0, 0],
+            Some(Entry::Call(Request::Open(MonthFigures {
+                agents: 4294967295,
+                days: 99,
+                weekday: 6,
+            }))),
         ),
         (
             "agent 1 role generator capacity 4000 power 7",
-            [2, 1, 1, 4000, 7, 0, 0, 0],
+            Some(Entry::Agent(
+                1,
+                Agent {
+                    role: 1,
+                    capacity: 4000,
+                    power: 7,
+                },
+            )),
         ),
         (
             "agent 2 role 9 capacity 0 power 0",
-            [2, 2, 9, 0, 0, 0, 0, 0],
+            Some(Entry::Agent(
+                2,
+                Agent {
+                    role: 9,
+                    capacity: 0,
+                    power: 0,
+                },
+            )),
         ),
         (
             "  post   hour 8  price 60000 ",
-            [3, 8, 60000, 0, 0, 0, 0, 0],
+            Some(Entry::Call(Request::Post {
+                hour: 8,
+                price: 60000,
+            })),
         ),
         (
             "line class forced cause 1 injected 2 withdrawn 3 gross 4 factor 5 cost 6",
-            [4, 3, 1, 2, 3, 4, 5, 6],
+            Some(Entry::Line(Line {
+                class: 3,
+                cause: 1,
+                injected: 2,
+                withdrawn: 3,
+                gross: 4,
+                factor: 5,
+                cost: 6,
+            })),
         ),
-        ("withdraw hour 8", [5, 8, 0, 0, 0, 0, 0, 0]),
-        ("statement 64", [6, 64, 0, 0, 0, 0, 0, 0]),
-        ("statements", [7, 0, 0, 0, 0, 0, 0, 0]),
+        (
+            "withdraw hour 8",
+            Some(Entry::Call(Request::Withdraw { hour: 8 })),
+        ),
+        (
+            "statement 64",
+            Some(Entry::Call(Request::Statement { agent: 64 })),
+        ),
+        ("statements", Some(Entry::Call(Request::Statements))),
     ];
     for (line, wanted) in lines {
-        match journal::read(line) {
-            Ok(entry) => assert_eq!(rt; figures(entry), wanted, "{}", line),
-            Err(expected) => return Err(Fail::new(expected)),
-        }
+        assert_eq!(rt; journal::read(line), Ok(wanted), "{}", line);
     }
-    Ok(())
 }
 
 #[test]
-fn refuses_lines(rt: HostRuntime) -> Result<(), Fail> {
+fn refuses_lines(rt: HostRuntime) {
     let lines = [
         ("opens agents 2", Expected::Call),
         ("OPEN agents 2", Expected::Call),
@@ -148,12 +145,8 @@ fn refuses_lines(rt: HostRuntime) -> Result<(), Fail> {
         ("statements 2", Expected::End),
     ];
     for (line, wanted) in lines {
-        match journal::read(line) {
-            Ok(_) => return Err(Fail::new(line)),
-            Err(expected) => assert_eq!(rt; expected, wanted, "{}", line),
-        }
+        assert_eq!(rt; journal::read(line), Err(wanted), "{}", line);
     }
-    Ok(())
 }
 
 #[test]
@@ -213,18 +206,18 @@ fn says_replies(rt: HostRuntime) -> Result<(), Fail> {
         reply.to_string(rt.alloc())?.as_str(),
         "Line 9, withdraw hour 8: refused, fault 9 at 8, the hour is free."
     );
-    let totals = Totals {
+    let totals = Totals(audit::Totals {
         balances: -23_640,
         residue: 23_640,
-    };
+    });
     assert_eq!(rt;
         totals.to_string(rt.alloc())?.as_str(),
         "Sum of balances: minus 2.3640 dollars.\nResidue of the standing hours: 2.3640 dollars.\nThe sum of balances is minus the residue."
     );
-    let totals = Totals {
+    let totals = Totals(audit::Totals {
         balances: 1,
         residue: 1,
-    };
+    });
     assert_eq!(rt;
         totals.to_string(rt.alloc())?.as_str(),
         "Sum of balances: 0.0001 dollars.\nResidue of the standing hours: 0.0001 dollars.\nThe sum of balances is NOT minus the residue."

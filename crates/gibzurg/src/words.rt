@@ -1,11 +1,12 @@
 //! What the program says of the calls that it makes.
-use crate::choices::ROLES;
 use crate::dollars::Dollars;
 use book::{BookFault, Statement};
+use forms::Role;
 use std::fmt;
 use thiserror::Error;
 
 /// A call, as its answer names it.
+// Kept beside `Request`, which is no plainer as a heading: an answer outlives its request, and shows none of an opening's figures nor a posting's price.
 #[derive(Clone, Copy)]
 pub(crate) enum Heading {
     Open,
@@ -60,24 +61,27 @@ impl fmt::Display for Reply {
     }
 }
 
-/// The word for a role, where its number has one.
-fn role(number: u32) -> Option<&'static str> {
-    let place = number.checked_sub(1)?;
-    ROLES.get(place as usize).copied()
+/// The word for a role.
+fn role_word(role: Role) -> &'static str {
+    match role {
+        Role::Generator => "generator",
+        Role::Distributor => "distributor",
+        Role::Consumer => "consumer",
+    }
 }
 
 /// A provisional statement, with the agent that it is of.
 #[derive(Clone, Copy)]
 pub(crate) struct Provisional {
     pub(crate) agent: u32,
-    pub(crate) role: Option<u32>,
+    pub(crate) role: Option<Role>,
     pub(crate) statement: Statement,
 }
 
 impl fmt::Display for Provisional {
     fn fmt<W: fmt::Write>(&self, f: &mut fmt::Formatter<W>) -> fmt::Result {
         let agent = self.agent;
-        let role = self.role.and_then(role).unwrap_or("unknown role");
+        let role = self.role.map_or("unknown role", role_word);
         let lines = self.statement.lines;
         let energy = self.statement.energy;
         let peak = self.statement.peak;
@@ -100,27 +104,18 @@ impl fmt::Display for Provisional {
 
 /// What all statements of a book come to together.
 #[derive(Clone, Copy)]
-pub(crate) struct Totals {
-    pub(crate) balances: i128,
-    pub(crate) residue: i128,
-}
-
-impl From<audit::Totals> for Totals {
-    fn from(totals: audit::Totals) -> Totals {
-        Totals {
-            balances: i128::from(totals.balances),
-            residue: i128::from(totals.residue),
-        }
-    }
-}
+pub(crate) struct Totals(pub(crate) audit::Totals);
 
 impl fmt::Display for Totals {
     fn fmt<W: fmt::Write>(&self, f: &mut fmt::Formatter<W>) -> fmt::Result {
-        let balances = Dollars(self.balances);
-        let residue = Dollars(self.residue);
-        writeln!(f, "Sum of balances: {balances}.")?;
-        writeln!(f, "Residue of the standing hours: {residue}.")?;
-        if self.balances.checked_neg() == Some(self.residue) {
+        let audit::Totals { balances, residue } = self.0;
+        writeln!(f, "Sum of balances: {}.", Dollars::from(balances))?;
+        writeln!(
+            f,
+            "Residue of the standing hours: {}.",
+            Dollars::from(residue)
+        )?;
+        if balances.checked_neg() == Some(residue) {
             write!(f, "The sum of balances is minus the residue.")
         } else {
             write!(f, "The sum of balances is NOT minus the residue.")
