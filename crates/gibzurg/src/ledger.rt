@@ -5,7 +5,7 @@ use audit::{Answer, Call, Done, Totals};
 use book::{Account, Agent, BookFault, Entry, MonthFigures, OpenMonth, Pool, Statement};
 use forms::{Contract, Role};
 use std::alloc::{AllocError, Global};
-use tally::{Energy, Money, Pair, Peak, Tally};
+use tally::{Pair, Tally};
 
 /// What the book answered, where there was memory to note the call.
 // Kept: one error enum is no plainer, since `?` takes the outer error, which ends the run, and the inner one is an answer to print.
@@ -32,16 +32,6 @@ impl Opening {
     /// The agent line that the opening waits for.
     pub(crate) fn awaited(&self) -> Expected {
         Expected::AgentLine(self.next(), self.figures.agents)
-    }
-}
-
-/// The statement of an agent that nothing was settled for.
-fn blank_statement() -> Statement {
-    Statement {
-        lines: Money::neutral(),
-        balance: 0,
-        energy: Energy::neutral(),
-        peak: Peak::neutral(),
     }
 }
 
@@ -187,7 +177,7 @@ impl Ledger {
     pub(crate) fn totals(&self) -> Heard<Totals> {
         let mut memory = Memory::new(self.heap, self.opening.figures)?;
         let mut answers: Vec<Answer> = vec![in self.heap; Ok(Done::Accepted); self.calls.len()]?;
-        let mut statements = vec![in self.heap; blank_statement(); self.opening.agents.len()]?;
+        let mut statements = vec![in self.heap; Statement::blank(); self.opening.agents.len()]?;
         Ok(audit::audit(
             self.opening.figures,
             &self.calls,
