@@ -6,6 +6,7 @@ ghost use Rattle.valuation.specs.Sharing.{parts_of};
 use valuation::share;
 
 /// Points to be carried by agents, each by its weight.
+// Kept as clauses, `few` and `bound`: no law over any `Self` says the bound, since it is that of figures of 32 bits, which are any numbers there; and `few` as a law would be proved in each impl to spare one clause.
 pub(crate) trait Carried {
     /// How many agents there are.
     ghost agents: { Self → ℕ };

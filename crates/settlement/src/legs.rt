@@ -1,6 +1,7 @@
 //! What contracts put on their parties' contract lines, and so all that an hour gives.
 ghost use Rattle.std.specs.Prelude.{◌≡◌, ◌+◌, ◌*◌, ◌≤◌, true, map, length, pos, if◌then◌else◌, nat_eq};
 ghost use Rattle.std.specs.List.{range_with_len, list_all};
+ghost use Rattle.calendar.specs.Weekdays.{number_of};
 ghost use Rattle.forms.specs.Meaning.{Balanced};
 ghost use Rattle.forms.specs.Roles.{role_of};
 ghost use Rattle.settlement.specs.ContractFaults.{PartiesKnown, contract_fits, place_fits};
@@ -71,13 +72,12 @@ impl Agent {
     }
 }
 
-/// A posting, with the form of the contracts that cover its hour, the number of the month's first weekday, and the energy that all
-/// distributors withdrew.
+/// A posting, with the form of the contracts that cover its hour, the month's first weekday, and the energy that all distributors
+/// withdrew.
 #[derive(Drop)]
 struct HourPool<'a, F> {
     form: &'a F,
-    // Kept as a number, as in `fill_hour`, by the rule that any figure is answered.
-    weekday: u32,
+    weekday: Weekday,
     posting: MeasuredPosting<'a>,
     distributors: u32,
     ghost distributed: { distributors ≡ distributors_withdrawn posting.agents.now posting.lines.now },
@@ -87,12 +87,12 @@ impl<F: ContractForm> HourPool<'_, F> {
     /// What a contract is settled by in the hour.
     fn facts(&self, contract: Contract) -> Facts
         requires { PartiesKnown (length self.now.posting.lines.now) contract }
-        ensures { result ≡ facts_of self.now.weekday self.now.posting.agents.now self.now.posting.stamp.hour self.now.posting.price self.now.posting.lines.now contract }
+        ensures { result ≡ facts_of (number_of self.now.weekday) self.now.posting.agents.now self.now.posting.stamp.hour self.now.posting.price self.now.posting.lines.now contract }
     {
         let seller = self.posting.lines[contract.seller as usize - 1];
         let buyer = self.posting.lines[contract.buyer as usize - 1];
         Facts {
-            band: self.posting.stamp.band(Weekday::at_number(self.weekday)),
+            band: self.posting.stamp.band(self.weekday),
             price: self.posting.price,
             seller_factor: seller.factor,
             buyer_factor: buyer.factor,
@@ -105,7 +105,7 @@ impl<F: ContractForm> HourPool<'_, F> {
     /// What a contract gives its parties in the hour, where it covers it.
     fn legs_of(&self, contract: Contract) -> Legs
         requires { contract_fits (F.meaning self.now.form.now) (24 * self.now.posting.stamp.days) self.now.posting.agents.now contract ≡ true }
-        ensures value { result ≡ legs_of (F.meaning self.now.form.now) self.now.weekday self.now.posting.agents.now self.now.posting.stamp.hour self.now.posting.price self.now.posting.lines.now contract }
+        ensures value { result ≡ legs_of (F.meaning self.now.form.now) (number_of self.now.weekday) self.now.posting.agents.now self.now.posting.stamp.hour self.now.posting.price self.now.posting.lines.now contract }
         ensures balanced { Balanced result }
     {
         let parties = parties(self.posting.agents, contract);
@@ -117,7 +117,7 @@ impl<F: ContractForm> HourPool<'_, F> {
     fn put_place(&self, place: &Option<Contract>, fresh: &mut [Entry])
         requires fresh_long { length fresh.old ≡ length self.now.posting.lines.now }
         requires fits { place_fits (F.meaning self.now.form.now) (24 * self.now.posting.stamp.days) self.now.posting.agents.now place.now ≡ true }
-        ensures { EachGets (λ i. leg_in (F.meaning self.now.form.now) self.now.weekday self.now.posting.agents.now self.now.posting.stamp.hour self.now.posting.price self.now.posting.lines.now i place.now) fresh.old fresh.new }
+        ensures { EachGets (λ i. leg_in (F.meaning self.now.form.now) (number_of self.now.weekday) self.now.posting.agents.now self.now.posting.stamp.hour self.now.posting.price self.now.posting.lines.now i place.now) fresh.old fresh.new }
     {
         if let Some(contract) = place {
             if does_cover(*contract, self.posting.stamp.hour()) {
@@ -130,7 +130,7 @@ impl<F: ContractForm> HourPool<'_, F> {
     fn put_contracts(&self, contracts: &[Option<Contract>], fresh: &mut [Entry])
         requires fit { list_all (place_fits (F.meaning self.now.form.now) (24 * self.now.posting.stamp.days) self.now.posting.agents.now) contracts.now ≡ true }
         requires fresh_long { length fresh.old ≡ length self.now.posting.lines.now }
-        ensures { EachGets (λ i. contract_line (pool_of (F.meaning self.now.form.now) self.now.weekday self.now.posting.agents.now contracts.now) self.now.posting.stamp.hour self.now.posting.price self.now.posting.lines.now i) fresh.old fresh.new }
+        ensures { EachGets (λ i. contract_line (pool_of (F.meaning self.now.form.now) (number_of self.now.weekday) self.now.posting.agents.now contracts.now) self.now.posting.stamp.hour self.now.posting.price self.now.posting.lines.now i) fresh.old fresh.new }
     {
         for place in contracts {
             self.put_place(place, fresh);
@@ -152,6 +152,7 @@ impl MeasuredPosting<'_> {
 
     /// Writes what the posting gives each agent at its hour, with the legs of the contracts that cover it, to its place. `weekday` is the
     /// number of the month's first.
+    // Kept as a number by the rule that any figure is answered.
     pub fn fill_hour<F: ContractForm>(
         &self,
         form: &F,
@@ -166,7 +167,7 @@ impl MeasuredPosting<'_> {
         self.fill_entries(fresh);
         let pool = HourPool {
             form,
-            weekday,
+            weekday: Weekday::at_number(weekday),
             posting: *self,
             distributors: self.distributors_withdrawn(),
         };
