@@ -39,6 +39,7 @@ impl HourStamp {
     }
 
     /// The place of this hour's entry of the agent at `index`, where entries lie agent after agent.
+    // Kept worked by hand: the entries lie agent after agent in one piece of fixed memory that the host lends.
     pub fn place(&self, index: u32) -> usize
         ensures { result ≡ index * (24 * self.now.days) + self.now.hour }
     {

@@ -22,6 +22,7 @@ fn factor_at(delivery: Delivery, facts: Facts) -> u32
 
 /// The legs of a contract for differences: the seller gets the energy's cost at the contract's price and gives its value at the
 /// place of delivery; the buyer the other way round.
+// Kept as clauses, as in `amount` and `excess` of valuation: types for price, factor and energy are no plainer, since every caller holds the figures raw.
 pub fn market_legs(terms: Contract, facts: Facts, quantity: u32) -> Legs
     requires contract_price_limit { terms.price ≤ most_price }
     requires price_limit { facts.price ≤ most_price }

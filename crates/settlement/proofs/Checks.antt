@@ -1,15 +1,14 @@
 -- Checks that go through a list: what is left of it gives the answer. Assumes nothing.
-use Rattle.std.proofs.Common.{◌≡◌, ℕ, zero, suc, ◌+◌, ◌<◌, Bool, true, false, not, cond, List, [], ◌∷◌, length, get_or, Some, Option, position, refl, ap, ◌∙◌, le_of_suc-le-suc, not-suc-le-zero, arith}
+use Rattle.std.proofs.Common.{◌≡◌, ℕ, suc, ◌+◌, ◌<◌, Bool, true, false, not, cond, List, [], ◌∷◌, length, get_or, Some, Option, position, refl, ap, ◌∙◌, arith}
 use Rattle.std.specs.List.{list_all, position_from}
 use Rattle.std.proofs.lemmas.Iterator.Adapters.{position_from-zero}
-use Rattle.std.proofs.lemmas.Bool.{and_parts}
+use Rattle.std.proofs.lemmas.List.Elements.{All-get_or}
+use Rattle.std.proofs.lemmas.List.Sums.{AllPass-from_list_all}
 use Rattle.settlement.specs.Sums.{first_failing}
 
 -- each item of a list that passes whole passes
 pub all_each : {X : Type 0} (test : X → Bool) (xs : List X) (i : ℕ) (d : X) → list_all test xs ≡ true → i < length xs → test (get_or xs i d) ≡ true
-all_each test [] i d all within = absurd (not-suc-le-zero within)
-all_each test (x ∷ xs) zero d all within = (and_parts (test x) (list_all test xs) all).0
-all_each test (x ∷ xs) (suc i) d all within = all_each test xs i d (and_parts (test x) (list_all test xs) all).1 (le_of_suc-le-suc within)
+all_each test xs i d all within = All-get_or (λ x. test x ≡ true) xs i d within (AllPass-from_list_all test xs all)
 
 -- the first place whose item fails, where each place has a test of its own
 pub first_from : {X : Type 0} (fails : X → Bool) (test : ℕ → Bool) (start : ℕ) (xs : List X) (d : X) →

@@ -9,7 +9,7 @@ use Rattle.settlement.specs.Hour.{role_at, weight_for}
 use Rattle.settlement.specs.Power.{power_due, power_weights, power_part, power_line}
 use Rattle.settlement.specs.Sums.{sum_to}
 use Rattle.settlement.proofs.Sharing.{weight_le}
-use Rattle.settlement.proofs.Sums.{sum_to_item_le, sum_to_mono, sum_by_list, sum_counting}
+use Rattle.settlement.proofs.Sums.{sum_to_mono, sum_by_list, sum_counting}
 
 -- the weight of the agent at a place
 abbrev pub power_weight : List Agent → (withdrawn : ℕ → ℕ) → ℕ → ℕ
@@ -19,18 +19,8 @@ power_weight agents withdrawn i = weight_for (role_at agents i) (withdrawn i)
 abbrev pub charged : List Agent → List Holding → ℕ → Holding
 charged agents accounts i = holding_joined (get_or accounts i no_holding) (power_points (power_line agents (withdrawn_on accounts) i))
 
--- an account's withdrawn energy is at most that of all
-pub withdrawn_le : (accounts : List Holding) (i : ℕ) → i < length accounts →
-    withdrawn_on accounts i ≤ sum_by (λ (account : Holding). account.second.withdrawn) accounts
-withdrawn_le accounts i within =
-    omega (
-      arith,
-      sum_by_list (λ (account : Holding). account.second.withdrawn) accounts no_holding,
-      sum_to_item_le (length accounts) (withdrawn_on accounts) i within,
-    )
-
 module _ (agents : List Agent) (accounts : List Holding) (long : length accounts ≡ length agents) where
-  -- so are all weights together
+  -- all weights together are at most the withdrawn energy of all accounts
   pub power_weights_le : sum (power_weights agents (withdrawn_on accounts)) ≤ sum_by (λ (account : Holding). account.second.withdrawn) accounts
   power_weights_le =
       omega (

@@ -1,6 +1,5 @@
 -- Sums f 0 + … + f (n − 1): one more, equal ones, one changed, bounds, sums of sums. Assumes nothing.
-use Rattle.std.proofs.Common.{◌≡◌, ℕ, zero, suc, ◌+◌, ◌*◌, ◌^◌, ◌<◌, ◌≤◌, List, map, length, get_or, take, ℤ, pos, negsuc, ◌+ℤ◌, ◌-ℤ◌, neg_ℤ, nat_abs, sum_by, sum, sym, refl, ap, ◌∙◌, inl, inr, suc-mul, add-one, arith, w64, SFits}
-use lib.Signed.{mag}
+use Rattle.std.proofs.Common.{◌≡◌, ℕ, zero, suc, ◌+◌, ◌*◌, ◌^◌, ◌<◌, ◌≤◌, List, map, length, get_or, take, ℤ, pos, ◌+ℤ◌, ◌-ℤ◌, neg_ℤ, nat_abs, sum_by, sum, sym, refl, ap, ◌∙◌, inl, inr, suc-mul, add-one, arith, w64, SFits}
 use Rattle.std.specs.List.{range_with_len, zip}
 use Rattle.std.proofs.lemmas.List.FromFn.{fill_by_all, length-map-range_with_len, get_or-map-range_with_len, sum_by-map-range_with_len_more}
 use Rattle.std.proofs.lemmas.List.{take_all}
@@ -78,10 +77,6 @@ sum_to_ℤ_abs (suc n) f most each =
 pub fits_abs : (z : ℤ) → nat_abs z < 2 ^ 63 → SFits w64 z
 fits_abs z small = omega (arith, ints)
 
-pub mag_abs : (z : ℤ) → mag z ≤ nat_abs z
-mag_abs (pos n) = omega arith
-mag_abs (negsuc n) = omega arith
-
 -- ---- sums of sums
 
 pub sum_to_add : (n : ℕ) (f g : ℕ → ℕ) → sum_to n (λ k. f k + g k) ≡ sum_to n f + sum_to n g
@@ -95,10 +90,6 @@ sum_to_ℤ_add (suc n) f g = omega (arith, ints, sum_to_ℤ_add n f g)
 pub sum_to_ℤ_neg : (n : ℕ) (f : ℕ → ℤ) → sum_to_ℤ n (λ k. neg_ℤ (f k)) ≡ neg_ℤ (sum_to_ℤ n f)
 sum_to_ℤ_neg zero f = refl
 sum_to_ℤ_neg (suc n) f = omega (arith, ints, sum_to_ℤ_neg n f)
-
-pub sum_to_ℤ_pos : (n : ℕ) (f : ℕ → ℕ) → sum_to_ℤ n (λ k. pos (f k)) ≡ pos (sum_to n f)
-sum_to_ℤ_pos zero f = refl
-sum_to_ℤ_pos (suc n) f = ap (λ z. z +ℤ pos (f n)) (sum_to_ℤ_pos n f)
 
 pub sum_to_swap : (n m : ℕ) (f : ℕ → ℕ → ℕ) → sum_to n (λ i. sum_to m (λ j. f i j)) ≡ sum_to m (λ j. sum_to n (λ i. f i j))
 sum_to_swap zero m f = sym (sum_to_const_zero m)

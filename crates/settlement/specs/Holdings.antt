@@ -1,5 +1,5 @@
 -- Accounts and entries: money and energy together. Assumes nothing.
-use Rattle.std.specs.Prelude.{ℕ, List, ℤ, pos, slice_index_or}
+use Rattle.std.specs.Prelude.{◌≡◌, ℕ, ◌<◌, List, length, ℤ, pos, slice_index_or}
 use Rattle.tally.specs.declared.money.Money.{Money}
 use Rattle.tally.specs.declared.energy.Energy.{Energy}
 use Rattle.tally.specs.declared.pair.Pair.{Pair}
@@ -39,6 +39,11 @@ contract_points points = pair_of (money_of (pos 0) points (pos 0) (pos 0)) no_en
 -- a holding with so many points more on its contract line
 abbrev pub with_points : ℤ → Holding → Holding
 with_points points holding = holding_joined holding (contract_points points)
+
+-- each agent gets so many points, by its place, on its contract line
+abbrev pub EachGets : (points : ℕ → ℤ) → (before after : List Holding) → Type 0
+EachGets points before after =
+    (i : ℕ) → i < length before → slice_index_or after i no_holding ≡ with_points (points i) (slice_index_or before i no_holding)
 
 -- points on the power line alone
 abbrev pub power_points : ℤ → Holding

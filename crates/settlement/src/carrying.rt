@@ -6,6 +6,7 @@ ghost use Rattle.valuation.specs.Sharing.{parts_of};
 use valuation::share;
 
 /// Points to be carried by agents, each by its weight.
+// Kept as clauses, `few` and `bound`: no law over any `Self` says the bound, since it is that of figures of 32 bits, which are any numbers there; and `few` as a law would be proved in each impl to spare one clause.
 pub(crate) trait Carried {
     /// How many agents there are.
     ghost agents: { Self → ℕ };
@@ -33,10 +34,12 @@ pub(crate) trait Carried {
 }
 
 /// Writes the weight of each agent to its place.
+// Kept as a clause, here and below: the weights lie in fixed memory lent for the call, as long as there are agents.
 fn fill_weights<C: Carried>(carried: &C, weights: &mut [u32])
     requires { length weights.old ≡ C.agents carried.now }
     ensures { weights.new ≡ weights_in (C.agents carried.now) (C.weight carried.now) }
 {
+    // Kept by index: one loop serves lines and accounts alike, and a trait hands out no iterator over either.
     for (i, weight) in weights.iter_mut().enumerate() {
         *weight = carried.weight(i);
     }

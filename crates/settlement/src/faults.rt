@@ -11,6 +11,7 @@ pub enum LineFault {
     #[error("the hour is outside the month")]
     HourOutside(u32),
     /// A figure of the line at this place, from 1, is outside its limit; at place 0 the price, or the number of lines.
+    // Kept as a place that may be 0 by the rules of the pool: the place of this fault is 0 for the price or the number of lines.
     #[error("the line count, the price or a figure of the line is outside its limit")]
     OutsideLimit(u32),
     /// The line at this place, from 1, breaks a rule on class, cause, gross or cost.

@@ -1,10 +1,11 @@
 //! What contracts put on their parties' contract lines, and so all that an hour gives.
-ghost use Rattle.std.specs.Prelude.{◌≡◌, ℕ, ◌+◌, ◌*◌, ◌<◌, ◌≤◌, true, map, length, pos, if◌then◌else◌, nat_eq, slice_index_or};
+ghost use Rattle.std.specs.Prelude.{◌≡◌, ◌+◌, ◌*◌, ◌≤◌, true, map, length, pos, if◌then◌else◌, nat_eq};
 ghost use Rattle.std.specs.List.{range_with_len, list_all};
+ghost use Rattle.calendar.specs.Weekdays.{number_of};
 ghost use Rattle.forms.specs.Meaning.{Balanced};
 ghost use Rattle.forms.specs.Roles.{role_of};
 ghost use Rattle.settlement.specs.ContractFaults.{PartiesKnown, contract_fits, place_fits};
-ghost use Rattle.settlement.specs.Holdings.{no_holding, contract_points, with_points, entry_of};
+ghost use Rattle.settlement.specs.Holdings.{contract_points, with_points, EachGets, entry_of};
 ghost use Rattle.settlement.specs.Pool.{pool_of, distributed_by, distributors_withdrawn, facts_of, legs_of, leg_for, leg_in, contract_line, hour_of};
 
 use crate::agents::Agent;
@@ -39,10 +40,11 @@ fn put_points(entry: &mut Entry, points: i64)
 }
 
 /// Puts points on the contract line of the agent with this number.
+// Kept as a clause of the length, here and below: the entries lie in fixed memory lent for the call.
 fn put_leg(number: u32, points: i64, fresh: &mut [Entry])
     requires some { 1 ≤ number }
     requires known { number ≤ length fresh.old }
-    ensures { (i : ℕ) → i < length fresh.old → slice_index_or fresh.new i no_holding ≡ with_points (if nat_eq number (i + 1) then points else pos 0) (slice_index_or fresh.old i no_holding) }
+    ensures { EachGets (λ i. if nat_eq number (i + 1) then points else pos 0) fresh.old fresh.new }
 {
     put_points(&mut fresh[number as usize - 1], points);
 }
@@ -51,7 +53,7 @@ fn put_leg(number: u32, points: i64, fresh: &mut [Entry])
 fn put_legs(contract: Contract, legs: Legs, fresh: &mut [Entry])
     requires known { PartiesKnown (length fresh.old) contract }
     requires balanced { Balanced legs }
-    ensures { (i : ℕ) → i < length fresh.old → slice_index_or fresh.new i no_holding ≡ with_points (leg_for contract legs i) (slice_index_or fresh.old i no_holding) }
+    ensures { EachGets (λ i. leg_for contract legs i) fresh.old fresh.new }
 {
     put_leg(contract.seller, legs.seller, fresh);
     put_leg(contract.buyer, legs.buyer, fresh);
@@ -59,6 +61,7 @@ fn put_legs(contract: Contract, legs: Legs, fresh: &mut [Entry])
 
 impl Agent {
     /// The energy that it withdrew, if it is a distributor.
+    // Kept beside `weight`: each is one test of the role, and one function for both would be given the test as a closure, which its contract would have to name.
     fn distributed(&self, withdrawn: u32) -> u32
         ensures { result ≡ distributed_by (role_of self.now.role) withdrawn }
     {
@@ -69,13 +72,12 @@ impl Agent {
     }
 }
 
-/// A posting, with the form of the contracts that cover its hour, the number of the month's first weekday, and the energy that all
-/// distributors withdrew.
+/// A posting, with the form of the contracts that cover its hour, the month's first weekday, and the energy that all distributors
+/// withdrew.
 #[derive(Drop)]
 struct HourPool<'a, F> {
     form: &'a F,
-    // Kept as a number, as in `fill_hour`, by the rule that any figure is answered.
-    weekday: u32,
+    weekday: Weekday,
     posting: MeasuredPosting<'a>,
     distributors: u32,
     ghost distributed: { distributors ≡ distributors_withdrawn posting.agents.now posting.lines.now },
@@ -85,12 +87,12 @@ impl<F: ContractForm> HourPool<'_, F> {
     /// What a contract is settled by in the hour.
     fn facts(&self, contract: Contract) -> Facts
         requires { PartiesKnown (length self.now.posting.lines.now) contract }
-        ensures { result ≡ facts_of self.now.weekday self.now.posting.agents.now self.now.posting.stamp.hour self.now.posting.price self.now.posting.lines.now contract }
+        ensures { result ≡ facts_of (number_of self.now.weekday) self.now.posting.agents.now self.now.posting.stamp.hour self.now.posting.price self.now.posting.lines.now contract }
     {
         let seller = self.posting.lines[contract.seller as usize - 1];
         let buyer = self.posting.lines[contract.buyer as usize - 1];
         Facts {
-            band: self.posting.stamp.band(Weekday::at_number(self.weekday)),
+            band: self.posting.stamp.band(self.weekday),
             price: self.posting.price,
             seller_factor: seller.factor,
             buyer_factor: buyer.factor,
@@ -103,7 +105,7 @@ impl<F: ContractForm> HourPool<'_, F> {
     /// What a contract gives its parties in the hour, where it covers it.
     fn legs_of(&self, contract: Contract) -> Legs
         requires { contract_fits (F.meaning self.now.form.now) (24 * self.now.posting.stamp.days) self.now.posting.agents.now contract ≡ true }
-        ensures value { result ≡ legs_of (F.meaning self.now.form.now) self.now.weekday self.now.posting.agents.now self.now.posting.stamp.hour self.now.posting.price self.now.posting.lines.now contract }
+        ensures value { result ≡ legs_of (F.meaning self.now.form.now) (number_of self.now.weekday) self.now.posting.agents.now self.now.posting.stamp.hour self.now.posting.price self.now.posting.lines.now contract }
         ensures balanced { Balanced result }
     {
         let parties = parties(self.posting.agents, contract);
@@ -115,7 +117,7 @@ impl<F: ContractForm> HourPool<'_, F> {
     fn put_place(&self, place: &Option<Contract>, fresh: &mut [Entry])
         requires fresh_long { length fresh.old ≡ length self.now.posting.lines.now }
         requires fits { place_fits (F.meaning self.now.form.now) (24 * self.now.posting.stamp.days) self.now.posting.agents.now place.now ≡ true }
-        ensures { (i : ℕ) → i < length fresh.old → slice_index_or fresh.new i no_holding ≡ with_points (leg_in (F.meaning self.now.form.now) self.now.weekday self.now.posting.agents.now self.now.posting.stamp.hour self.now.posting.price self.now.posting.lines.now i place.now) (slice_index_or fresh.old i no_holding) }
+        ensures { EachGets (λ i. leg_in (F.meaning self.now.form.now) (number_of self.now.weekday) self.now.posting.agents.now self.now.posting.stamp.hour self.now.posting.price self.now.posting.lines.now i place.now) fresh.old fresh.new }
     {
         if let Some(contract) = place {
             if does_cover(*contract, self.posting.stamp.hour()) {
@@ -128,7 +130,7 @@ impl<F: ContractForm> HourPool<'_, F> {
     fn put_contracts(&self, contracts: &[Option<Contract>], fresh: &mut [Entry])
         requires fit { list_all (place_fits (F.meaning self.now.form.now) (24 * self.now.posting.stamp.days) self.now.posting.agents.now) contracts.now ≡ true }
         requires fresh_long { length fresh.old ≡ length self.now.posting.lines.now }
-        ensures { (i : ℕ) → i < length fresh.old → slice_index_or fresh.new i no_holding ≡ with_points (contract_line (pool_of (F.meaning self.now.form.now) self.now.weekday self.now.posting.agents.now contracts.now) self.now.posting.stamp.hour self.now.posting.price self.now.posting.lines.now i) (slice_index_or fresh.old i no_holding) }
+        ensures { EachGets (λ i. contract_line (pool_of (F.meaning self.now.form.now) (number_of self.now.weekday) self.now.posting.agents.now contracts.now) self.now.posting.stamp.hour self.now.posting.price self.now.posting.lines.now i) fresh.old fresh.new }
     {
         for place in contracts {
             self.put_place(place, fresh);
@@ -150,6 +152,7 @@ impl MeasuredPosting<'_> {
 
     /// Writes what the posting gives each agent at its hour, with the legs of the contracts that cover it, to its place. `weekday` is the
     /// number of the month's first.
+    // Kept as a number by the rule that any figure is answered.
     pub fn fill_hour<F: ContractForm>(
         &self,
         form: &F,
@@ -164,7 +167,7 @@ impl MeasuredPosting<'_> {
         self.fill_entries(fresh);
         let pool = HourPool {
             form,
-            weekday,
+            weekday: Weekday::at_number(weekday),
             posting: *self,
             distributors: self.distributors_withdrawn(),
         };

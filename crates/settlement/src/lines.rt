@@ -23,7 +23,7 @@ pub(crate) struct UnknownClass {
 /// hundred-thousandths, the declared cost in micro-dollars per kWh.
 #[derive(Clone, Copy, PartialEq, Eq, Debug)]
 pub struct Line {
-    // Kept as a number by the rule that any figure is answered: one that names no class is a fault to be told, and `known_class` gives the enum.
+    // Kept as numbers, class and cause (0 for none), by the rule that any figure is answered: one that names no class or no agent is a fault to be told, and `known_class` gives the enum.
     pub class: u32,
     pub cause: u32,
     pub injected: u32,

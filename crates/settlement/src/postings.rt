@@ -16,6 +16,7 @@ use valuation::{MOST_ENERGY, MOST_PRICE};
 pub struct MeasuredPosting<'a> {
     pub stamp: HourStamp,
     pub price: u32,
+    // Kept beside one another, here and in `PostedLines`: the host fills in both, each in fixed memory that it lends.
     pub lines: &'a [Line],
     pub agents: &'a [Agent],
     pub ghost measured: { Measured price lines.now } by { Prim.hlevel props },
@@ -23,7 +24,7 @@ pub struct MeasuredPosting<'a> {
 }
 
 /// The stamp of an hour of the month, or a refusal where it lies outside.
-// Kept as a clause, here and in `check_posting`: a type for up to 31 days is no plainer, since an open month holds its days as a figure of its own.
+// Kept as a clause, here and in `check_posting`, as are its 64 agents: a type for up to 31 days is no plainer, since an open month holds its days as a figure of its own.
 pub fn check_hour(days: u32, hour: u32) -> Result<HourStamp, LineFault>
     requires { days ≤ 31 }
     ensures fault { result_err result ≡ hour_fault (24 * days) hour }

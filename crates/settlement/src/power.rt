@@ -28,6 +28,7 @@ fn power_credit(agent: &Agent) -> u64
 /// The agents of a book with their accounts of a month, which hold no more withdrawn energy than the month's hours can.
 #[derive(Clone, Copy)]
 struct Month<'a> {
+    // Kept beside one another: both lie in fixed memory that the host lends.
     agents: &'a [Agent],
     accounts: &'a [Entry],
     ghost few: { length agents.now ≤ 64 },
@@ -57,6 +58,7 @@ impl Carried for Month<'_> {
 }
 
 /// Refuses power that is due and that no withdrawn energy carries.
+// Kept as clauses, here and in `charge_power`: a public `Month` is no plainer, since each call would make one and take it apart again.
 pub fn check_power(agents: &[Agent], accounts: &[Entry]) -> Result<(), BookFault>
     requires few { length agents.now ≤ 64 }
     requires accounts_long { length accounts.now ≡ length agents.now }

@@ -21,6 +21,7 @@ pub(crate) struct PricedLine<'a> {
 impl PricedLine<'_> {
     /// The excess of a line that had to run; 0 in a normal one.
     pub(crate) fn excess(&self) -> u64
+        // Kept as bounds of the results, here and below: a type of such points is no plainer, since each is used once, by the sum that adds them up.
         ensures value { result ≡ excess_on self.now.price self.now.line.now }
         ensures bound { result ≤ 80000000000 }
     {
@@ -78,8 +79,8 @@ impl PricedLine<'_> {
                 power: 0,
             },
             second: Energy {
-                injected: line.injected as u64,
-                withdrawn: line.withdrawn as u64,
+                injected: u64::from(line.injected),
+                withdrawn: u64::from(line.withdrawn),
             },
         }
     }

@@ -7,12 +7,14 @@ use crate::agents::Agent;
 use forms::{Contract, ContractForm, Parties, Party, is_valid};
 
 /// An agent as a party to a contract.
-fn party(agent: &Agent) -> Party
-    ensures { result ≡ party_of agent.now }
-{
-    Party {
-        role: agent.role,
-        capacity: agent.capacity,
+impl From<&Agent> for Party {
+    ghost from_gives = { λ agent party. party ≡ party_of agent.now };
+
+    fn from(agent: &Agent) -> Party {
+        Party {
+            role: agent.role,
+            capacity: agent.capacity,
+        }
     }
 }
 
@@ -30,8 +32,8 @@ pub(crate) fn parties(agents: &[Agent], contract: Contract) -> Parties
     ensures { result ≡ parties_of agents.now contract }
 {
     Parties {
-        seller: party(&agents[contract.seller as usize - 1]),
-        buyer: party(&agents[contract.buyer as usize - 1]),
+        seller: Party::from(&agents[contract.seller as usize - 1]),
+        buyer: Party::from(&agents[contract.buyer as usize - 1]),
     }
 }
 

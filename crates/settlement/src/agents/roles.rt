@@ -14,6 +14,7 @@ const MOST_POWER: u32 = 1_000_000;
 
 impl Agent {
     /// The role that its number names, if any.
+    // Kept beside `Party::known_role` of forms: each is one call of `try_from`, and a trait for both types would be longer than the two.
     pub(crate) fn known_role(&self) -> Option<Role>
         ensures { result ≡ role_of self.now.role }
     {

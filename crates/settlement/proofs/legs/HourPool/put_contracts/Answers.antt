@@ -1,5 +1,6 @@
 use Rattle.std.proofs.Common.{◌*◌, Bool, get_or, take, ℤ, None, Option, sym, ap, ◌∙◌, arith}
 use Rattle.std.proofs.lemmas.List.{take_all}
+use Rattle.calendar.specs.Weekdays.{number_of}
 use Rattle.forms.specs.declared.Contract.{Contract}
 use Rattle.settlement.specs.ContractFaults.{place_fits}
 use Rattle.settlement.specs.Holdings.{Holding, no_holding, with_points}
@@ -23,7 +24,7 @@ put_place-requires g c =
 pub loop-place-preserved : goal.loop-place-preserved
 loop-place-preserved g c i within =
     let leg : Option Contract → ℤ =
-    leg_in (g.F.ContractForm.meaning c.args.self.now.form.now) c.args.self.now.weekday c.args.self.now.posting.agents.now c.args.self.now.posting.stamp.hour c.args.self.now.posting.price c.args.self.now.posting.lines.now i in
+    leg_in (g.F.ContractForm.meaning c.args.self.now.form.now) (number_of c.args.self.now.weekday) c.args.self.now.posting.agents.now c.args.self.now.posting.stamp.hour c.args.self.now.posting.price c.args.self.now.posting.lines.now i in
     let places = c.args.contracts.now in
     let k = c.loop-place.place-index in
     let old : Holding = get_or c.args.fresh.now i no_holding in
@@ -35,6 +36,6 @@ loop-place-preserved g c i within =
 pub returns : goal.returns
 returns g c i within =
     let leg : Option Contract → ℤ =
-    leg_in (g.F.ContractForm.meaning c.args.self.now.form.now) c.args.self.now.weekday c.args.self.now.posting.agents.now c.args.self.now.posting.stamp.hour c.args.self.now.posting.price c.args.self.now.posting.lines.now i in
+    leg_in (g.F.ContractForm.meaning c.args.self.now.form.now) (number_of c.args.self.now.weekday) c.args.self.now.posting.agents.now c.args.self.now.posting.stamp.hour c.args.self.now.posting.price c.args.self.now.posting.lines.now i in
     c.loop-place.invariant i within
     ∙ ap (λ places. with_points (sum_of leg places) (get_or c.args.fresh.now i no_holding)) (take_all c.loop-place.place-index c.args.contracts.now c.loop-place-test.false)

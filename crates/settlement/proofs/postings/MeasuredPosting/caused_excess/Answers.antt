@@ -24,5 +24,4 @@ returns-clause-value c =
 pub returns-clause-bound : goal.returns-clause-bound
 returns-clause-bound c =
     let posting = c.args.self.now in
-    let sum : c.sum.result ≡ sum_by (caused_on posting.price c.args.index) posting.lines.now = search rules in
-    omega (arith, sum ∙ sum_by_list (caused_on posting.price c.args.index) posting.lines.now no_line, caused_le posting.price posting.lines.now posting.measured c.args.index)
+    omega (arith, returns-clause-value c, caused_le posting.price posting.lines.now posting.measured c.args.index)

@@ -5,9 +5,8 @@ use Rattle.valuation.specs.Sharing.{parts_of}
 use Rattle.valuation.proofs.Sharing.{slice_index_or-parts_of}
 use Rattle.settlement.specs.declared.agents.Agent.{Agent}
 use Rattle.settlement.specs.declared.lines.Line.{Line}
-use Rattle.settlement.specs.Holdings.{entry_of}
+use Rattle.settlement.specs.Holdings.{no_holding, entry_of}
 use Rattle.settlement.specs.Hour.{line_at, figures_with, own_of, caused_sum, carried_by, obligated_sum, weights_of}
-use Rattle.settlement.specs.Holdings.{no_holding}
 use Rattle.settlement.proofs.Bounds.{carried_le}
 use Rattle.settlement.proofs.Sharing.{weights_le}
 use Rattle.settlement.proofs.postings.MeasuredPosting.fill_entries_by.Goals as goal

@@ -1,7 +1,6 @@
 use Rattle.std.proofs.Common.{◌≡◌, ℕ, ◌<◌, get_or}
-use Rattle.settlement.specs.Holdings.{entry_of}
+use Rattle.settlement.specs.Holdings.{no_holding, entry_of}
 use Rattle.settlement.specs.Hour.{own_of}
-use Rattle.settlement.specs.Holdings.{no_holding}
 use Rattle.settlement.proofs.postings.MeasuredPosting.fill_entries_by.Given as goal
 
 abbrev pub invariant-loop-i : goal.invariant-loop-i

@@ -24,5 +24,4 @@ returns-clause-value c =
 pub returns-clause-bound : goal.returns-clause-bound
 returns-clause-bound c =
     let posting = c.args.self.now in
-    let sum : c.sum.result ≡ sum_by (obligated_on posting.price) posting.lines.now = search rules in
-    omega (arith, sum ∙ sum_by_list (obligated_on posting.price) posting.lines.now no_line, obligated_le posting.price posting.lines.now posting.measured)
+    omega (arith, returns-clause-value c, obligated_le posting.price posting.lines.now posting.measured)
