@@ -6,6 +6,7 @@ use std::alloc::{AllocError, Global};
 use tally::{Energy, Money, Pair, Peak, Tally};
 
 /// A call, as a table of cases has it.
+// Kept beside `Call`: cases are copied, and a `Call`'s `Vec` of lines can't be.
 #[derive(Clone, Copy)]
 pub(crate) enum Step {
     Post(u32, u32, [Line; 2]),
@@ -16,14 +17,14 @@ pub(crate) enum Step {
 /// The figures of an opening, and how many places are lent for answers and statements.
 #[derive(Clone, Copy)]
 pub(crate) struct Setting {
-    pub(crate) count: u32,
-    pub(crate) days: u32,
-    pub(crate) weekday: u32,
+    pub(crate) figures: MonthFigures,
     pub(crate) answers: usize,
     pub(crate) statements: usize,
 }
 
 /// A refusal, by its number and place.
+// Kept as numbers by the rules of the pool: faults are looked up by number and place, and the tests keep their values.
+// Kept beside the `Refusal` of `book_tests`: no crate under both is for tests alone.
 #[derive(Clone, Copy, PartialEq, Eq, Debug)]
 pub(crate) struct Refusal {
     pub(crate) number: u32,
@@ -33,26 +34,19 @@ pub(crate) struct Refusal {
 /// What a call was answered: the balance, where a statement was given.
 pub(crate) type Told = Result<Option<i64>, Refusal>;
 
-/// The numbers of a statement.
-#[derive(Clone, Copy, PartialEq, Eq, Debug)]
-pub(crate) struct Row {
-    pub(crate) market: i64,
-    pub(crate) overcost: i64,
-    pub(crate) balance: i64,
-    pub(crate) injected: u64,
-    pub(crate) withdrawn: u64,
-    pub(crate) peak: u64,
-    pub(crate) peak_hour: u32,
-}
-
 /// What an audit came to.
 #[derive(Clone, Copy, PartialEq, Eq, Debug)]
 pub(crate) struct Outcome {
-    pub(crate) fault: Told,
-    pub(crate) balances: i64,
-    pub(crate) residue: i64,
-    pub(crate) generator: Row,
-    pub(crate) distributor: Row,
+    pub(crate) settled: Result<Totals, Refusal>,
+    pub(crate) generator: Statement,
+    pub(crate) distributor: Statement,
+}
+
+/// What an audit came to, and what each place for an answer holds after it.
+#[derive(Drop)]
+pub(crate) struct Findings {
+    pub(crate) outcome: Outcome,
+    pub(crate) told: Vec<Told>,
 }
 
 /// Nothing refused, and no statement given.
@@ -104,27 +98,23 @@ fn told_of(answer: Answer) -> Told {
     }
 }
 
-impl From<Statement> for Row {
-    fn from(statement: Statement) -> Row {
-        Row {
-            market: statement.lines.market,
-            overcost: statement.lines.overcost,
-            balance: statement.balance,
-            injected: statement.energy.injected,
-            withdrawn: statement.energy.withdrawn,
-            peak: statement.peak.kwh,
-            peak_hour: statement.peak.hour,
-        }
+/// The statement of an agent of whom nothing is posted.
+pub(crate) fn blank() -> Statement {
+    Statement {
+        lines: Money::neutral(),
+        balance: 0,
+        energy: Energy::neutral(),
+        peak: Peak::neutral(),
     }
 }
 
 /// The audit in memory of its own.
 fn settle(
-    setting: Setting,
+    figures: MonthFigures,
     calls: &[Call],
     answers: &mut [Answer],
     statements: &mut [Statement],
-) -> Result<Totals, BookFault> {
+) -> Result<Totals, Refusal> {
     let nothing: Entry = Pair::neutral();
     let mut accounts = [nothing; 2];
     let mut contracts: [Option<Contract>; 64] = [None; 64];
@@ -135,12 +125,7 @@ fn settle(
         marks: &mut marks,
         entries: &mut entries,
     };
-    let figures = MonthFigures {
-        agents: setting.count,
-        days: setting.days,
-        weekday: setting.weekday,
-    };
-    audit(
+    Ok(audit(
         figures,
         calls,
         &AGENTS,
@@ -148,46 +133,31 @@ fn settle(
         &mut ledger,
         answers,
         statements,
-    )
+    )?)
 }
 
-/// What an audit with these statements came to.
-fn came_to(settled: Result<Totals, BookFault>, statements: &[Statement; 3]) -> Outcome {
-    let (fault, balances, residue) = match settled {
-        Ok(totals) => (DONE, totals.balances, totals.residue),
-        Err(fault) => (told_of(Err(fault)), 0, 0),
-    };
-    Outcome {
-        fault,
-        balances,
-        residue,
-        generator: Row::from(statements[0]),
-        distributor: Row::from(statements[1]),
-    }
-}
-
-/// Audits the calls; what each was answered goes to its place in `told`.
+/// Audits the calls, with no more of eight places for answers and three for statements lent than the setting says.
 pub(crate) fn audited(
     heap: Global,
     setting: Setting,
     steps: &[Step],
-    told: &mut [Told; 8],
-) -> Result<Outcome, AllocError> {
+) -> Result<Findings, AllocError> {
     let calls = calls_of(heap, steps)?;
-    let blank = Statement {
-        lines: Money::neutral(),
-        balance: 0,
-        energy: Energy::neutral(),
-        peak: Peak::neutral(),
-    };
-    let mut answers = [Ok(Done::Accepted); 8];
-    let mut statements = [blank; 3];
-    let result = settle(
-        setting,
+    // Kept longer than what is lent: the places past it are seen to stay as they are.
+    let mut answers: Vec<Answer> = vec![in heap; Ok(Done::Accepted); 8]?;
+    let mut statements = vec![in heap; blank(); 3]?;
+    let settled = settle(
+        setting.figures,
         &calls,
         &mut answers[0..setting.answers.min(8)],
         &mut statements[0..setting.statements.min(3)],
     );
-    *told = answers.map(told_of);
-    Ok(came_to(result, &statements))
+    Ok(Findings {
+        outcome: Outcome {
+            settled,
+            generator: statements[0],
+            distributor: statements[1],
+        },
+        told: answers.iter().map(|answer| told_of(*answer)).collect(heap)?,
+    })
 }

@@ -1,6 +1,8 @@
-use crate::desk::{DONE, Outcome, Refusal, Row, Setting, Step, audited};
-use book::Line;
+use crate::desk::{DONE, Outcome, Refusal, Setting, Step, audited, blank};
+use audit::Totals;
+use book::{Line, MonthFigures, Statement};
 use std::test::Fail;
+use tally::{Energy, Money, Peak, Tally};
 
 const IDLE: Line = Line {
     class: 1,
@@ -55,30 +57,41 @@ const OBLIGATED: [Line; 2] = [
     },
 ];
 
-const NOTHING: Row = Row {
-    market: 0,
-    overcost: 0,
-    balance: 0,
-    injected: 0,
-    withdrawn: 0,
-    peak: 0,
-    peak_hour: 0,
-};
+/// What an audit comes to where no hour stands.
+fn empty() -> Outcome {
+    Outcome {
+        settled: Ok(Totals {
+            balances: 0,
+            residue: 0,
+        }),
+        generator: blank(),
+        distributor: blank(),
+    }
+}
 
-const EMPTY: Outcome = Outcome {
-    fault: DONE,
-    balances: 0,
-    residue: 0,
-    generator: NOTHING,
-    distributor: NOTHING,
-};
+/// The lines of a statement, of which no contract and no power is told.
+fn money(market: i64, overcost: i64) -> Money {
+    Money {
+        market,
+        contract: 0,
+        overcost,
+        power: 0,
+    }
+}
+
+/// The figures of an opening.
+fn of(agents: u32, days: u32, weekday: u32) -> MonthFigures {
+    MonthFigures {
+        agents,
+        days,
+        weekday,
+    }
+}
 
 /// A setting with a place for each of so many answers.
 fn right(answers: usize) -> Setting {
     Setting {
-        count: 2,
-        days: 1,
-        weekday: 0,
+        figures: of(2, 1, 0),
         answers,
         statements: 2,
     }
@@ -87,73 +100,70 @@ fn right(answers: usize) -> Setting {
 #[test]
 fn totals_of_a_small_month(rt: HostRuntime) -> Result<(), Fail> {
     let plain = Outcome {
-        balances: -23_640,
-        residue: 23_640,
-        generator: Row {
-            market: 570_000,
+        settled: Ok(Totals {
+            balances: -23_640,
+            residue: 23_640,
+        }),
+        generator: Statement {
+            lines: money(570_000, 0),
             balance: 570_000,
-            injected: 1_000,
-            ..NOTHING
+            energy: Energy {
+                injected: 1_000,
+                withdrawn: 0,
+            },
+            peak: Peak::neutral(),
         },
-        distributor: Row {
-            market: -593_640,
+        distributor: Statement {
+            lines: money(-593_640, 0),
             balance: -593_640,
-            withdrawn: 970,
-            peak: 970,
-            peak_hour: 7,
-            ..NOTHING
+            energy: Energy {
+                injected: 0,
+                withdrawn: 970,
+            },
+            peak: Peak::of(970, 7),
         },
-        ..EMPTY
     };
     let obligated = Outcome {
-        balances: 2_500,
-        residue: -2_500,
-        generator: Row {
-            market: 47_500,
-            overcost: 32_500,
+        settled: Ok(Totals {
+            balances: 2_500,
+            residue: -2_500,
+        }),
+        generator: Statement {
+            lines: money(47_500, 32_500),
             balance: 80_000,
-            injected: 95,
-            ..NOTHING
+            energy: Energy {
+                injected: 95,
+                withdrawn: 0,
+            },
+            peak: Peak::neutral(),
         },
-        distributor: Row {
-            market: -45_000,
-            overcost: -32_500,
+        distributor: Statement {
+            lines: money(-45_000, -32_500),
             balance: -77_500,
-            withdrawn: 90,
-            peak: 90,
-            peak_hour: 23,
-            ..NOTHING
+            energy: Energy {
+                injected: 0,
+                withdrawn: 90,
+            },
+            peak: Peak::of(90, 23),
         },
-        ..EMPTY
     };
-    let mut told = [DONE; 8];
-    assert_eq!(rt; audited(rt.alloc(), right(0), &[], &mut told)?, EMPTY);
+    assert_eq!(rt; audited(rt.alloc(), right(0), &[])?.outcome, empty());
     assert_eq!(rt;
-        audited(
-            rt.alloc(),
-            right(1),
-            &[Step::Post(7, 60_000, PLAIN)],
-            &mut told,
-        )?,
+        audited(rt.alloc(), right(1), &[Step::Post(7, 60_000, PLAIN)])?.outcome,
         plain
     );
     assert_eq!(rt;
-        audited(
-            rt.alloc(),
-            right(1),
-            &[Step::Post(23, 50_000, OBLIGATED)],
-            &mut told,
-        )?,
+        audited(rt.alloc(), right(1), &[Step::Post(23, 50_000, OBLIGATED)])?.outcome,
         obligated
     );
     assert_eq!(rt;
         audited(
             rt.alloc(),
             right(2),
-            &[Step::Post(7, 60_000, PLAIN), Step::Withdraw(7)],
-            &mut told,
-        )?,
-        EMPTY
+            &[Step::Post(7, 60_000, PLAIN), Step::Withdraw(7)]
+        )?
+        .outcome,
+        empty()
     );
     Ok(())
 }
@@ -162,25 +172,18 @@ fn totals_of_a_small_month(rt: HostRuntime) -> Result<(), Fail> {
 fn the_same_postings_give_the_same_statements(rt: HostRuntime) -> Result<(), Fail> {
     let plain = Step::Post(0, 60_000, PLAIN);
     let obligated = Step::Post(5, 50_000, OBLIGATED);
-    let mut told = [DONE; 8];
-    let wanted = audited(rt.alloc(), right(2), &[plain, obligated], &mut told)?;
-    assert_eq!(rt; wanted.residue, 21_140);
+    let wanted = audited(rt.alloc(), right(2), &[plain, obligated])?.outcome;
+    assert_eq!(rt; wanted.settled.map(|totals| totals.residue), Ok(21_140));
     assert_eq!(rt;
-        audited(rt.alloc(), right(2), &[obligated, plain], &mut told)?,
+        audited(rt.alloc(), right(2), &[obligated, plain])?.outcome,
         wanted
     );
     // corrected with another node factor, and back
     let corrected = [plain, obligated, Step::Post(0, 60_000, OTHER_FACTOR), plain];
-    assert_eq!(rt;
-        audited(rt.alloc(), right(4), &corrected, &mut told)?,
-        wanted
-    );
+    assert_eq!(rt; audited(rt.alloc(), right(4), &corrected)?.outcome, wanted);
     // withdrawn and posted again
     let withdrawn = [plain, Step::Withdraw(0), obligated, plain];
-    assert_eq!(rt;
-        audited(rt.alloc(), right(4), &withdrawn, &mut told)?,
-        wanted
-    );
+    assert_eq!(rt; audited(rt.alloc(), right(4), &withdrawn)?.outcome, wanted);
     // with refusals between
     let refusals = [
         Step::Withdraw(0),
@@ -189,10 +192,7 @@ fn the_same_postings_give_the_same_statements(rt: HostRuntime) -> Result<(), Fai
         obligated,
         Step::Post(5, 2_000_001, PLAIN),
     ];
-    assert_eq!(rt;
-        audited(rt.alloc(), right(5), &refusals, &mut told)?,
-        wanted
-    );
+    assert_eq!(rt; audited(rt.alloc(), right(5), &refusals)?.outcome, wanted);
     Ok(())
 }
 
@@ -230,9 +230,9 @@ fn each_call_is_answered(rt: HostRuntime) -> Result<(), Fail> {
         DONE,
         Ok(Some(0)),
     ];
-    let mut told = [DONE; 8];
-    assert_eq!(rt; audited(rt.alloc(), right(8), &steps, &mut told)?, EMPTY);
-    assert_eq!(rt; told, wanted);
+    let findings = audited(rt.alloc(), right(8), &steps)?;
+    assert_eq!(rt; findings.outcome, empty());
+    assert_eq!(rt; findings.told.as_slice(), wanted.as_slice());
     Ok(())
 }
 
@@ -271,72 +271,69 @@ fn an_audit_that_does_not_fit_is_refused(rt: HostRuntime) -> Result<(), Fail> {
         (
             Setting {
                 answers: 0,
-                days: 0,
+                figures: of(2, 0, 0),
                 ..right(1)
             },
             1,
         ),
         (
             Setting {
-                count: 1,
+                figures: of(1, 1, 0),
                 ..right(1)
             },
             1,
         ),
         (
             Setting {
-                days: 2,
+                figures: of(2, 2, 0),
                 ..right(1)
             },
             1,
         ),
         (
             Setting {
-                count: 0,
+                figures: of(0, 1, 0),
                 ..right(1)
             },
             3,
         ),
         (
             Setting {
-                count: 65,
+                figures: of(65, 1, 0),
                 ..right(1)
             },
             3,
         ),
         (
             Setting {
-                days: 0,
+                figures: of(2, 0, 0),
                 ..right(1)
             },
             3,
         ),
         (
             Setting {
-                days: 32,
+                figures: of(2, 32, 0),
                 ..right(1)
             },
             3,
         ),
         (
             Setting {
-                weekday: 7,
+                figures: of(2, 1, 7),
                 ..right(1)
             },
             3,
         ),
     ];
-    let mut told = [DONE; 8];
     for (setting, number) in cases {
         let wanted = Outcome {
-            fault: Err(Refusal { number, place: 0 }),
-            ..EMPTY
+            settled: Err(Refusal { number, place: 0 }),
+            ..empty()
         };
-        assert_eq!(rt;
-            audited(rt.alloc(), setting, &[Step::Withdraw(0)], &mut told)?,
-            wanted
-        );
-        assert_eq!(rt; told, [DONE; 8]);
+        let findings = audited(rt.alloc(), setting, &[Step::Withdraw(0)])?;
+        assert_eq!(rt; findings.outcome, wanted);
+        assert_eq!(rt; findings.told.as_slice(), [DONE; 8].as_slice());
     }
     Ok(())
 }

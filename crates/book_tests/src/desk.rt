@@ -8,6 +8,7 @@ use forms::Contract;
 use tally::{Energy, Money, Pair, Tally};
 
 /// How much of the memory is lent to the call.
+// Kept beside arrays with a place more: the length that is lent is what is tried, so no buffer of exactly that length is plainer.
 #[derive(Clone, Copy)]
 pub(crate) struct Sizes {
     pub(crate) agents: usize,
@@ -27,6 +28,7 @@ pub(crate) const RIGHT: Sizes = Sizes {
 };
 
 /// A stored figure, changed between the opening and the call.
+// Kept as an enum: the cases are a table that each call goes through, and a list of closures would have to hold boxed ones.
 #[derive(Clone, Copy)]
 pub(crate) enum Damage {
     SecondAgent(Agent),
@@ -43,6 +45,7 @@ pub(crate) enum Damage {
 }
 
 /// The call that is tried.
+// Kept as an enum: a list of calls would have to hold boxed closures, which is no plainer.
 #[derive(Clone, Copy)]
 pub(crate) enum Trial {
     Post,
@@ -52,6 +55,8 @@ pub(crate) enum Trial {
 }
 
 /// A refusal, by its number and place.
+// Kept as numbers by the rules of the pool: faults are looked up by number and place, and the tests keep their values.
+// Kept beside the `Refusal` of `audit_tests`: no crate under both is for tests alone.
 #[derive(Clone, Copy, PartialEq, Eq, Debug)]
 pub(crate) struct Refusal {
     pub(crate) number: u32,

@@ -16,6 +16,11 @@ fn energy(injected: u64, withdrawn: u64) -> Energy {
     }
 }
 
+/// The two joined in either order, and what the sum is with the second taken out again.
+fn joined<T: Reversible + Copy>(a: T, b: T, sum: T) -> [T; 3] {
+    [a.join(b), b.join(a), sum.join(b.opposite())]
+}
+
 // Two values, and what they join to.
 #[test]
 fn money_joins(rt: HostRuntime) {
@@ -37,9 +42,7 @@ fn money_joins(rt: HostRuntime) {
         ),
     ];
     for (a, b, sum) in cases {
-        assert_eq!(rt; a.join(b), sum);
-        assert_eq!(rt; b.join(a), sum);
-        assert_eq!(rt; sum.join(b.opposite()), a);
+        assert_eq!(rt; joined(a, b, sum), [sum, sum, a]);
     }
     assert_eq!(rt;
         money(i64::MIN, 1, -2, 0).opposite(),
@@ -59,9 +62,7 @@ fn energy_joins(rt: HostRuntime) {
         ),
     ];
     for (a, b, sum) in cases {
-        assert_eq!(rt; a.join(b), sum);
-        assert_eq!(rt; b.join(a), sum);
-        assert_eq!(rt; sum.join(b.opposite()), a);
+        assert_eq!(rt; joined(a, b, sum), [sum, sum, a]);
     }
     assert_eq!(rt; energy(0, 1).opposite(), energy(0, u64::MAX));
 }
