@@ -3,7 +3,7 @@ use audit::{Answer, Call, Done, Posting, Totals, audit};
 use book::{Agent, BookFault, Entry, Ledger, Line, MonthFigures, Statement};
 use forms::Contract;
 use std::alloc::{AllocError, Global};
-use tally::{Energy, Money, Pair, Peak, Tally};
+use tally::{Pair, Tally};
 
 /// A call, as a table of cases has it.
 // Kept beside `Call`: cases are copied, and a `Call`'s `Vec` of lines can't be.
@@ -98,16 +98,6 @@ fn told_of(answer: Answer) -> Told {
     }
 }
 
-/// The statement of an agent of whom nothing is posted.
-pub(crate) fn blank() -> Statement {
-    Statement {
-        lines: Money::neutral(),
-        balance: 0,
-        energy: Energy::neutral(),
-        peak: Peak::neutral(),
-    }
-}
-
 /// The audit in memory of its own.
 fn settle(
     figures: MonthFigures,
@@ -145,7 +135,7 @@ pub(crate) fn audited(
     let calls = calls_of(heap, steps)?;
     // Kept longer than what is lent: the places past it are seen to stay as they are.
     let mut answers: Vec<Answer> = vec![in heap; Ok(Done::Accepted); 8]?;
-    let mut statements = vec![in heap; blank(); 3]?;
+    let mut statements = vec![in heap; Statement::blank(); 3]?;
     let settled = settle(
         setting.figures,
         &calls,

@@ -1,4 +1,4 @@
-use crate::desk::{DONE, Outcome, Refusal, Setting, Step, audited, blank};
+use crate::desk::{DONE, Outcome, Refusal, Setting, Step, audited};
 use audit::Totals;
 use book::{Line, MonthFigures, Statement};
 use std::test::Fail;
@@ -64,8 +64,8 @@ fn empty() -> Outcome {
             balances: 0,
             residue: 0,
         }),
-        generator: blank(),
-        distributor: blank(),
+        generator: Statement::blank(),
+        distributor: Statement::blank(),
     }
 }
 
