@@ -81,6 +81,7 @@ pub fn provisional(
     if agent == 0 || agent > figures.agents {
         return Err(BookFault::OutsideBook);
     }
+    // Kept as places worked by number, here and in `day_total`: in lent memory the entries lie agent after agent.
     let index = (agent - 1) as usize;
     let hours = 24 * figures.days as usize;
     let peak = month_peak(view.entries, index * hours, hours);

@@ -62,6 +62,7 @@ impl fmt::Display for Reply {
 }
 
 /// The word for a role.
+// Kept beside the table by which words are read, which is no plainer here: it would be searched by place, and may hold no word.
 fn role_word(role: Role) -> &'static str {
     match role {
         Role::Generator => "generator",

@@ -13,6 +13,7 @@ pub(crate) enum Class {
 }
 
 /// A number that names no class.
+// Kept beside the errors of roles and of weekdays: one for all would be told the enum that it speaks of, and is no plainer.
 #[derive(Clone, Copy, PartialEq, Eq, Debug, Error)]
 #[error("no class of a line has the number {number}")]
 pub(crate) struct UnknownClass {
