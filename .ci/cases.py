@@ -209,6 +209,10 @@ def sums():
     level = {**due, "gross": 95, "cost": 50_000}
     bad = post(line(**{**level, "gross": 96}), *quiet(3), hour=1)
     yield "an excess of nothing needs no weight", *pair(post(line(**level), *quiet(3)), bad, 8, 0)
+    point = {"kind": 2, "gross": 1, "cost": 50}  # half a point, rounded up
+    bad = post(line(**point), *quiet(3), hour=1, price=0)
+    less = post(line(**{**point, "cost": 49}), *quiet(3), price=0)
+    yield "an excess of one point needs a weight", *pair(less, bad, 8, 0)
     yield (
         "forced excess needs no weight",
         opening(roles) + post(line(**{**due, "kind": 3, "cause": 2}), *quiet(3)) + "statements\n",
