@@ -1,7 +1,9 @@
 -- What the laws of a tally give of totals. Assumes nothing.
-use Rattle.std.proofs.Common.{◌≡◌, ℕ, zero, suc, ◌<◌, List, [], ◌∷◌, ◌++◌, length, get_or, set, fold, sym, ap, ◌∙◌, le_of_suc-le-suc, not-suc-le-zero}
+use Rattle.std.proofs.Common.{◌≡◌, ℕ, zero, suc, ◌+◌, ◌*◌, ◌<◌, ◌≤◌, List, [], ◌∷◌, ◌++◌, map, length, get_or, set, take, drop, fold, sym, ap, ◌∙◌, arith, drop-drop, le_of_suc-le-suc, not-suc-le-zero}
 use Rattle.tally.specs.Lawful.{Lawful}
-use Rattle.tally.specs.Total.{total}
+use Rattle.std.specs.List.{range_with_len}
+use Rattle.std.proofs.lemmas.List.{take-append-drop, drop_all}
+use Rattle.tally.specs.Total.{total, day_in, day_totals}
 
 module _ {T : Type 0} {nothing : T} {joined : T → T → T} (laws : Lawful nothing joined) where
   pub right_identity : (x : T) → joined x nothing ≡ x
@@ -39,3 +41,17 @@ module _ {T : Type 0} {nothing : T} {joined : T → T → T} (laws : Lawful noth
   total_set (x ∷ xs) (suc i) old out new cancels within read =
       let rest = total nothing joined xs in
       ap (λ t. joined t new) (laws.associative x rest out) ∙ laws.associative x (joined rest out) new ∙ ap (joined x) (total_set xs i old out new cancels (le_of_suc-le-suc within) read)
+
+  -- of the days from one on, each joined: all that is left from its first hour on
+  days_from : (n day : ℕ) (month : List T) → length month ≤ 24 * (day + n) →
+      total nothing joined (map (λ k. total nothing joined (day_in k month)) (range_with_len day n)) ≡ total nothing joined (drop (24 * day) month)
+  days_from zero day month few = ap (total nothing joined) (sym (drop_all (24 * day) month (omega (arith, few))))
+  days_from (suc n) day month few =
+      let left = drop (24 * day) month in
+      ap (joined (total nothing joined (take 24 left))) (days_from n (day + 1) month (omega (arith, few)) ∙ ap (total nothing joined) (sym (drop-drop 24 (24 * day) month ∙ ap (λ k. drop k month) (omega arith))))
+      ∙ sym (total_append (take 24 left) (drop 24 left))
+      ∙ ap (total nothing joined) (take-append-drop 24 left)
+
+  -- the joined days are the joined month
+  pub total_days : (days : ℕ) (month : List T) → length month ≤ 24 * days → total nothing joined month ≡ total nothing joined (day_totals nothing joined days month)
+  total_days days month few = sym (days_from days 0 month (omega (arith, few)))

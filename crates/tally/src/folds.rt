@@ -1,6 +1,6 @@
 //! One fold and one update for every tally.
-ghost use Rattle.std.specs.Prelude.{◌≡◌, ℕ, ◌*◌, ◌<◌, List, length, take, drop, slice_index_or, slice_set};
-ghost use Rattle.tally.specs.Total.{total};
+ghost use Rattle.std.specs.Prelude.{◌≡◌, ℕ, ◌*◌, ◌<◌, ◌≤◌, List, length, slice_index_or, slice_set};
+ghost use Rattle.tally.specs.Total.{total, day_in, day_totals};
 
 use crate::traits::{Reversible, Tally};
 
@@ -24,7 +24,7 @@ pub fn update<T: Tally + Reversible + Copy>(account: T, old: T, new: T) -> T
 
 /// All of a day together: the twenty-four items from its first hour on, or as many as there are.
 pub fn fold_day<T: Tally + Copy>(month: &[T], day: usize) -> T
-    ensures { result ≡ total T.nothing T.joined (take 24 (drop (24 * day) month.now)) }
+    ensures { result ≡ total T.nothing T.joined (day_in day month.now) }
 {
     match month.chunks(HOURS).nth(day) {
         Some(hours) => fold(hours),
@@ -32,9 +32,10 @@ pub fn fold_day<T: Tally + Copy>(month: &[T], day: usize) -> T
     }
 }
 
-/// All of a month together, day by day.
+/// All of a month together, day by day: the joined days are the joined month.
 pub fn fold_days<T: Tally + Copy>(month: &[T]) -> T
-    ensures { result ≡ total T.nothing T.joined month.now }
+    ensures value { result ≡ total T.nothing T.joined month.now }
+    ensures by_days { (days : ℕ) → length month.now ≤ 24 * days → result ≡ total T.nothing T.joined (day_totals T.nothing T.joined days month.now) }
 {
     let mut sum = T::neutral();
     for day in month.chunks(HOURS) {
