@@ -1,4 +1,4 @@
-//! The open month: numbers alone, made only by an accepted opening.
+//! The open month: its figures alone, made only by an accepted opening.
 ghost use Rattle.std.specs.Prelude.{◌≤◌};
 
 pub mod figures;

@@ -1,7 +1,7 @@
 //! Memory for a book of two agents and one day, with a place more of each kind, and one call on it.
 use crate::slices::post_in;
 use book::{
-    Agent, BookFault, Entry, Ledger, Line, MonthFigures, OpenMonth, Pool, day_total, open,
+    Agent, BookFault, Entry, Ledger, Line, MonthFigures, OpenMonth, Pool, day_total, open, post,
     provisional, withdraw,
 };
 use forms::Contract;
@@ -208,4 +208,79 @@ pub(crate) fn tried(sizes: Sizes, damage: Option<Damage>, trial: Trial) -> Told 
     let said = call(&month, trial, &pool, &mut lent);
     let _ = month.retire();
     Ok(said?)
+}
+
+/// Opens a book on so much of the memory, and tells how the opening was answered.
+pub(crate) fn opened(sizes: Sizes) -> Told {
+    let nothing: Entry = Pair::neutral();
+    let agents = [GENERATOR, DISTRIBUTOR, DISTRIBUTOR];
+    let mut accounts = [nothing; 3];
+    let mut contracts: [Option<Contract>; 65] = [None; 65];
+    let mut marks = [0u8; 25];
+    let mut entries = [nothing; 49];
+    let mut lent = Ledger {
+        accounts: &mut accounts[0..sizes.accounts.min(3)],
+        marks: &mut marks[0..sizes.marks.min(25)],
+        entries: &mut entries[0..sizes.entries.min(49)],
+    };
+    let agents = &agents[0..sizes.agents.min(3)];
+    let contracts = &mut contracts[0..sizes.contracts.min(65)];
+    let month = open(FIGURES, agents, contracts, &mut lent)?;
+    let _ = month.retire();
+    Ok(())
+}
+
+/// Posts the last hour of the first day, and the first of each day, in which the first agent injects twice what the second withdraws.
+fn post_two_days(
+    month: &OpenMonth,
+    pool: &Pool<'_>,
+    ledger: &mut Ledger<'_>,
+) -> Result<(), BookFault> {
+    for (hour, withdrawn) in [(23, 20), (0, 1), (24, 300)] {
+        let injection = Line {
+            injected: 2 * withdrawn,
+            withdrawn: 0,
+            ..LINE
+        };
+        let withdrawal = Line {
+            injected: 0,
+            withdrawn,
+            ..LINE
+        };
+        post(
+            month,
+            hour,
+            50_000,
+            &[injection, withdrawal],
+            pool,
+            ledger,
+        )?;
+    }
+    Ok(())
+}
+
+/// The energies of an agent's day, in a book of two agents and two days.
+pub(crate) fn day_of(agent: u32, day: u32) -> Result<Energy, Refusal> {
+    let nothing: Entry = Pair::neutral();
+    let agents = [GENERATOR, DISTRIBUTOR];
+    let mut accounts = [nothing; 2];
+    let mut contracts: [Option<Contract>; 64] = [None; 64];
+    let mut marks = [0u8; 48];
+    let mut entries = [nothing; 96];
+    let mut ledger = Ledger {
+        accounts: &mut accounts,
+        marks: &mut marks,
+        entries: &mut entries,
+    };
+    let figures = MonthFigures { days: 2, ..FIGURES };
+    let month = open(figures, &agents, &mut contracts, &mut ledger)?;
+    let pool = Pool {
+        agents: &agents,
+        contracts: &contracts,
+    };
+    let posted = post_two_days(&month, &pool, &mut ledger);
+    let total = day_total(&month, agent, day, &ledger.view(&pool));
+    let _ = month.retire();
+    posted?;
+    Ok(total?.second)
 }

@@ -1,6 +1,7 @@
-use crate::desk::{Damage, RIGHT, Refusal, Sizes, Told, Trial, tried};
+use crate::desk::{Damage, RIGHT, Refusal, Sizes, Told, Trial, day_of, opened, tried};
 use book::{Agent, BookFault, LineFault};
 use std::test::Fail;
+use tally::Energy;
 
 const CALLS: [Trial; 4] = [Trial::Post, Trial::Withdraw, Trial::Statement, Trial::Day];
 
@@ -11,13 +12,51 @@ const WRONG_SIZE: Told = Err(Refusal {
     place: 0,
 });
 
+const OUTSIDE_BOOK: Result<Energy, Refusal> = Err(Refusal {
+    number: 3,
+    place: 0,
+});
+
 const STORED: Told = Err(Refusal {
     number: 2,
     place: 0,
 });
 
+/// One place too few or too many of each part of the memory.
+const WRONG_SIZES: [Sizes; 10] = [
+    Sizes { agents: 1, ..RIGHT },
+    Sizes { agents: 3, ..RIGHT },
+    Sizes {
+        accounts: 1,
+        ..RIGHT
+    },
+    Sizes {
+        accounts: 3,
+        ..RIGHT
+    },
+    Sizes {
+        contracts: 63,
+        ..RIGHT
+    },
+    Sizes {
+        contracts: 65,
+        ..RIGHT
+    },
+    Sizes { marks: 23, ..RIGHT },
+    Sizes { marks: 25, ..RIGHT },
+    Sizes {
+        entries: 47,
+        ..RIGHT
+    },
+    Sizes {
+        entries: 49,
+        ..RIGHT
+    },
+];
+
 #[test]
 fn right_memory_is_accepted(rt: HostRuntime) {
+    assert_eq!(rt; opened(RIGHT), ACCEPTED);
     for trial in CALLS {
         assert_eq!(rt; tried(RIGHT, None, trial), ACCEPTED);
     }
@@ -25,37 +64,8 @@ fn right_memory_is_accepted(rt: HostRuntime) {
 
 #[test]
 fn memory_of_another_size_is_refused(rt: HostRuntime) {
-    let sizes = [
-        Sizes { agents: 1, ..RIGHT },
-        Sizes { agents: 3, ..RIGHT },
-        Sizes {
-            accounts: 1,
-            ..RIGHT
-        },
-        Sizes {
-            accounts: 3,
-            ..RIGHT
-        },
-        Sizes {
-            contracts: 63,
-            ..RIGHT
-        },
-        Sizes {
-            contracts: 65,
-            ..RIGHT
-        },
-        Sizes { marks: 23, ..RIGHT },
-        Sizes { marks: 25, ..RIGHT },
-        Sizes {
-            entries: 47,
-            ..RIGHT
-        },
-        Sizes {
-            entries: 49,
-            ..RIGHT
-        },
-    ];
-    for size in sizes {
+    for size in WRONG_SIZES {
+        assert_eq!(rt; opened(size), WRONG_SIZE);
         for trial in CALLS {
             assert_eq!(rt; tried(size, None, trial), WRONG_SIZE);
         }
@@ -164,6 +174,27 @@ fn a_wrong_size_is_answered_before_a_stored_figure(rt: HostRuntime) {
             ),
             WRONG_SIZE
         );
+    }
+}
+
+// An agent and a day, and what the day comes to.
+#[test]
+fn days_are_totals_of_their_own_hours(rt: HostRuntime) {
+    let cases = [
+        (1, 1, 42, 0),
+        (2, 1, 0, 21),
+        (1, 2, 600, 0),
+        (2, 2, 0, 300),
+    ];
+    for (agent, day, injected, withdrawn) in cases {
+        assert_eq!(rt; day_of(agent, day), Ok(Energy { injected, withdrawn }));
+    }
+}
+
+#[test]
+fn days_outside_the_book_are_refused(rt: HostRuntime) {
+    for (agent, day) in [(0, 1), (3, 1), (u32::MAX, 1), (1, 0), (2, 3), (1, u32::MAX)] {
+        assert_eq!(rt; day_of(agent, day), OUTSIDE_BOOK);
     }
 }
 

@@ -62,3 +62,22 @@ fn hours_of_a_month(rt: HostRuntime) -> Result<(), Fail> {
     assert_eq!(rt; Weekday::Saturday.number(), 5);
     Ok(())
 }
+
+// An hour and a month's days, and whether the month has that hour.
+#[test]
+fn no_stamp_is_outside_its_month(rt: HostRuntime) {
+    let cases = [
+        (0, 0, false),
+        (0, 1, true),
+        (23, 1, true),
+        (24, 1, false),
+        (743, 31, true),
+        (744, 31, false),
+        (u32::MAX, 31, false),
+        (0, 32, false),
+        (0, u32::MAX, false),
+    ];
+    for (hour, days, exists) in cases {
+        assert_eq!(rt; HourStamp::new(hour, days).is_some(), exists);
+    }
+}
