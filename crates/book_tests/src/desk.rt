@@ -247,14 +247,7 @@ fn post_two_days(
             withdrawn,
             ..LINE
         };
-        post(
-            month,
-            hour,
-            50_000,
-            &[injection, withdrawal],
-            pool,
-            ledger,
-        )?;
+        post(month, hour, 50_000, &[injection, withdrawal], pool, ledger)?;
     }
     Ok(())
 }

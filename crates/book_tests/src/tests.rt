@@ -180,14 +180,15 @@ fn a_wrong_size_is_answered_before_a_stored_figure(rt: HostRuntime) {
 // An agent and a day, and what the day comes to.
 #[test]
 fn days_are_totals_of_their_own_hours(rt: HostRuntime) {
-    let cases = [
-        (1, 1, 42, 0),
-        (2, 1, 0, 21),
-        (1, 2, 600, 0),
-        (2, 2, 0, 300),
-    ];
+    let cases = [(1, 1, 42, 0), (2, 1, 0, 21), (1, 2, 600, 0), (2, 2, 0, 300)];
     for (agent, day, injected, withdrawn) in cases {
-        assert_eq!(rt; day_of(agent, day), Ok(Energy { injected, withdrawn }));
+        assert_eq!(rt;
+            day_of(agent, day),
+            Ok(Energy {
+                injected,
+                withdrawn
+            })
+        );
     }
 }
 
