@@ -1,7 +1,7 @@
 -- Tables of faults, and what a call comes to by them. Assumes nothing.
 use Rattle.std.proofs.Common.{◌≡◌, ◌*◌, ◌≤◌, Bool, true, false, ◌||◌, eqb, List, [], ◌∷◌, length, Some, None, Ok, Err, Option, sym, refl, ap, ◌∙◌}
 use Rattle.std.specs.List.{list_all}
-use Rattle.std.proofs.lemmas.Bool.{and_parts, or_right, not-false, eqb-true, leb-true}
+use Rattle.std.proofs.lemmas.Bool.{and_parts, not-false, eqb-true, leb-true}
 use Rattle.forms.specs.Meaning.{Meaning}
 use Rattle.settlement.specs.declared.faults.BookFault.{BookFault}
 use Rattle.settlement.specs.Agents.{agent_fits}
@@ -9,7 +9,7 @@ use Rattle.settlement.specs.ContractFaults.{place_fits}
 use Rattle.settlement.specs.Faults.{met_if, first_met, answer_of}
 use Rattle.settlement.proofs.Measured.{unmet}
 use Rattle.book.specs.declared.months.MonthFigures.{MonthFigures}
-use Rattle.book.specs.Calls.{Outcome, outcome, outcome_of}
+use Rattle.book.specs.Calls.{outcome, outcome_of}
 use Rattle.book.specs.Memory.{Memory, sized, stored_fits, mark_fits, energy_within, all_withdrawn, size_fault, stored_fault}
 use Rattle.book.specs.Months.{hours_of}
 
@@ -45,14 +45,6 @@ pub first_meets : {F : Type 0} (a b : Bool) (fault met : F) → Some met ≡ met
 first_meets true b fault met is = is
 first_meets false b fault met is = cc
 
--- or passed
-pub second_meets : {F : Type 0} (a b : Bool) (fault : F) → true ≡ b → Some fault ≡ met_if (a || b) fault
-second_meets a b fault is = sym (ap (λ t. met_if t fault) (or_right a b (sym is)))
-
-pub neither_meets : {F : Type 0} (a b : Bool) (fault : F) → None ≡ met_if a fault → false ≡ b → None ≡ met_if (a || b) fault
-neither_meets true b fault none is = none
-neither_meets false b fault none is = ap (λ t. met_if t fault) is
-
 -- the memory of a month that no fault of memory was found in
 pub record Checked (form : Meaning) (f : MonthFigures) (m : Memory) : Type 0 where
   pub agents_long : length m.agents ≡ f.agents
@@ -60,7 +52,6 @@ pub record Checked (form : Meaning) (f : MonthFigures) (m : Memory) : Type 0 whe
   pub contracts_long : length m.contracts ≡ 64
   pub marks_long : length m.marks ≡ hours_of f.days
   pub entries_long : length m.entries ≡ f.agents * hours_of f.days
-  pub agents_fit : list_all agent_fits m.agents ≡ true
   pub contracts_fit : list_all (place_fits form (hours_of f.days) m.agents) m.contracts ≡ true
   pub withdrawn_within : all_withdrawn m.accounts ≤ 2976000000
 
@@ -93,10 +84,20 @@ module _ (form : Meaning) (f : MonthFigures) (m : Memory) where
         contracts_long = eqb-true _ _ c.0;
         marks_long = eqb-true _ _ d.0;
         entries_long = eqb-true _ _ d.1;
-        agents_fit = p.0;
         contracts_fit = q.0;
         withdrawn_within = leb-true _ _ t.1;
       }
+
+  -- ---- a check that answers by the table alone
+
+  module _ (rest : List (Option BookFault)) where
+    -- memory refuses it
+    pub memory_refuses : (fault : BookFault) → Some fault ≡ memory_fault → Some fault ≡ faults_then rest
+    memory_refuses fault met = sym (refused_early (size_fault f.agents (hours_of f.days) m) (stored_fault form (hours_of f.days) m) rest fault met)
+
+    -- memory does not, and the rest decides
+    pub memory_passes : None ≡ memory_fault → first_met rest ≡ faults_then rest
+    memory_passes none = sym (passed_early (size_fault f.agents (hours_of f.days) m) (stored_fault form (hours_of f.days) m) rest none)
 
   -- ---- a call that answers with a whole memory
 
@@ -126,22 +127,3 @@ module _ (form : Meaning) (f : MonthFigures) (m : Memory) where
     pub look_refused_later : (fault : BookFault) → None ≡ memory_fault → first_met rest ≡ Some fault → Err fault ≡ answer_of x (faults_then rest)
     look_refused_later fault none met =
         sym (ap (answer_of x) (passed_early (size_fault f.agents (hours_of f.days) m) (stored_fault form (hours_of f.days) m) rest none ∙ met))
-
-    pub look_accepted : (y : X) → None ≡ memory_fault → first_met rest ≡ None → y ≡ x → Ok y ≡ answer_of x (faults_then rest)
-    look_accepted y none unmet-all same =
-        ap Ok same ∙ sym (ap (answer_of x) (passed_early (size_fault f.agents (hours_of f.days) m) (stored_fault form (hours_of f.days) m) rest none ∙ unmet-all))
-
--- ---- what a call gives in place of nothing
-
--- an accepted call that gives y where it gave x
-pub given_as : {X Y : Type 0} (met : Option BookFault) (x : X) (y : Y) (memory before after : Memory) → outcome_of (Ok x) memory ≡ outcome met x before after → outcome_of (Ok y) memory ≡ outcome met y before after
-given_as None x y memory before after is = ap (λ o. outcome_of (Ok y) o.memory) is
-given_as {X} (Some fault) x y memory before after is = let answers : Ok x ≡ Err fault = ap (λ (o : Outcome X). o.answer) is in cc
-
--- and a refused one
-pub refused_as : {X Y : Type 0} (met : Option BookFault) (x : X) (y : Y) (fault : BookFault) (memory before after : Memory) → outcome_of {X = X} (Err fault) memory ≡ outcome met x before after → outcome_of {X = Y} (Err fault) memory ≡ outcome met y before after
-refused_as {X} None x y fault memory before after is = let answers : Err fault ≡ Ok x = ap (λ (o : Outcome X). o.answer) is in cc
-refused_as {X} (Some g) x y fault memory before after is =
-    let answers : Err fault ≡ Err g = ap (λ (o : Outcome X). o.answer) is in
-    let same : fault ≡ g = cc in
-    (λ k. outcome_of (Err (same k)) (is k).memory)

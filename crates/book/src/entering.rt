@@ -107,8 +107,9 @@ pub fn enter<F: ContractForm>(
     ensures { outcome_of result (memory_with agents.now contracts.new ledger.now) ≡ entered (F.meaning form.now) (figures_of month.now) number contract (memory_with agents.now contracts.old ledger.now) }
 {
     let pool = Pool { agents, contracts };
-    let view = ledger.view(&pool);
-    let place = view.check_entry(form, &month.month, number, contract)?;
+    let place = ledger
+        .view(&pool)
+        .check_entry(form, &month.month, number, contract)?;
     contracts[place] = Some(contract);
     Ok(())
 }
