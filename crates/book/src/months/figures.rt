@@ -1,12 +1,11 @@
 //! The figures of a month, open or closed.
 ghost use Rattle.std.specs.Prelude.{◌≡◌, ◌*◌, ◌≤◌, IfOk, OnOk, length};
 ghost use Rattle.std.specs.Result.{result_err};
-ghost use Rattle.calendar.specs.Weekdays.{number_of};
 ghost use Rattle.settlement.specs.PostingFaults.{hour_fault, line_fault};
-ghost use Rattle.book.specs.Months.{figures_in, figures_of, closed_figures_of, month_figures, hours_of};
+ghost use Rattle.book.specs.Months.{figures_in, figures_of, closed_figures_of, hours_of};
 
 use crate::months::{ClosedMonth, Month, MonthFigures, OpenMonth};
-use calendar::{HourStamp, Weekday};
+use calendar::HourStamp;
 use settlement::{Agent, Line, LineFault, MeasuredPosting, check_hour, check_posting};
 
 impl Month {
@@ -55,22 +54,6 @@ impl Month {
 }
 
 impl OpenMonth {
-    /// A month with these figures: for an accepted opening alone.
-    pub(crate) fn new(agents: u32, days: u32, first: Weekday) -> OpenMonth
-        requires some_agents { 1 ≤ agents }
-        requires few_agents { agents ≤ 64 }
-        requires some_days { 1 ≤ days }
-        requires few_days { days ≤ 31 }
-        ensures { figures_of result ≡ month_figures agents days (number_of first) }
-    {
-        let month = Month {
-            agents,
-            days,
-            first,
-        };
-        OpenMonth { month }
-    }
-
     /// The figures that it was opened with.
     pub fn figures(&self) -> MonthFigures
         ensures { result ≡ figures_of self.now }
