@@ -1,3 +1,4 @@
 pub mod Anew
 pub mod Stands
 pub mod Settlings
+pub mod Audited

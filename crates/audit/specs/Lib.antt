@@ -1,3 +1,4 @@
 pub mod Only
 pub mod Again
 pub mod Settlings
+pub mod Audits

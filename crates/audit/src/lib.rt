@@ -7,4 +7,5 @@ mod audits;
 mod residues;
 mod settling;
 
+pub use audits::{Findings, Report, audit};
 pub use runs::{Answer, Call, Month, Posting, Told, answer};

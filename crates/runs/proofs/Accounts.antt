@@ -40,6 +40,7 @@ energy_changed a b a' b' x y x' y' p q = energy_same _ _ (one_changed a a' x x' 
 
 -- from now on this stands at an hour of an open month
 module _ (form : Meaning) (o : Opening) (s : Standing) (is : s.state ≡ open') (hour : ℕ) (within : hour < hours_in o) (p : Option Posting) (i : ℕ) where
+  -- what then stands
   abbrev s' : Standing
   s' = standing_with hour p s
 

@@ -49,9 +49,11 @@ module _ (f : MonthFigures) (m : Memory) (opens : open_fault f m ≡ None) where
   abbrev pub opening : Opening
   opening = opening_of f.days f.weekday m.agents
 
+  -- the faults of an opening
   abbrev rows : List (Option BookFault)
   rows = met_if (not (size_known f)) OutsideBook ∷ size_fault f.agents (hours_of f.days) m ∷ met_if (ltb 6 f.weekday || not (list_all agent_fits m.agents)) OutsideBook ∷ []
 
+  -- none was met
   none_met : NoneMet rows
   none_met = first_met_none rows opens
 
@@ -119,6 +121,7 @@ module _ (f : MonthFigures) (m m' : Memory) (opens : open_fault f m ≡ None) (o
 -- ---- the run
 
 module _ (form : Meaning) (keeps : Keeps form) (f : MonthFigures) (m : Memory) (opens : open_fault f m ≡ None) where
+  -- what it was opened with
   abbrev o : Opening
   o = opening f m opens
 
@@ -126,70 +129,86 @@ module _ (form : Meaning) (keeps : Keeps form) (f : MonthFigures) (m : Memory) (
   abbrev pub start : Kept
   start = kept_of open' (emptied m)
 
+  -- it holds that nothing stands
   start_holds : Holds form o nothing_stands start
   start_holds =
       holds_emptied form o m refl (accounts_sized f m opens ∙ sym (agents_long f m opens)) (contracts_sized f m opens) (marks_sized f m opens)
       (entries_sized f m opens ∙ ap (λ n. n * hours_in o) (sym (agents_long f m opens)))
 
   module _ (contracts : Bool) (requests : List Request) where
-    -- what stands at the end, and the book as it is kept then
+    -- what stands at the end
     abbrev pub standing : Standing
     standing = after form o (heard_by contracts requests)
 
+    -- the book as it is kept then
     abbrev pub kept : Kept
     kept = kept_after contracts form f requests start
 
+    -- what stands is sound
     standing_sound : Sound form o standing
     standing_sound = sound_after form o (heard_by contracts requests)
 
+    -- the book holds it, whether it heard contracts or not
     holds_by : (by : Bool) → Holds form o (after form o (heard_by by requests)) (kept_after by form (figures_of_opening o) requests start)
     holds_by true = run_holds form keeps o (is_opened f m opens) nothing_stands (sound_none form o) start start_holds requests
     holds_by false = run_holds_without form keeps o (is_opened f m opens) nothing_stands (sound_none form o) start start_holds requests
 
+    -- so it does with the figures that it was opened with
     pub kept_holds : Holds form o standing kept
     kept_holds = subst (λ g. Holds form o standing (kept_after contracts form g requests start)) (same_figures f m opens) (holds_by contracts)
 
+    -- so its memory has its size and keeps every limit
     kept_fits : (sized (count_in o) (hours_in o) kept.memory ≡ true) × (stored_fits form (hours_in o) kept.memory ≡ true)
     kept_fits = held_fits form keeps o (is_opened f m opens) standing standing_sound kept.memory kept_holds.memory
 
+    -- its size
     pub kept_sized : sized f.agents (hours_of f.days) kept.memory ≡ true
     kept_sized = ap (λ n. sized n (hours_of f.days) kept.memory) (sym (agents_long f m opens)) ∙ kept_fits.0
 
+    -- its limits
     pub kept_stored : stored_fits form (hours_of f.days) kept.memory ≡ true
     kept_stored = kept_fits.1
 
-    -- its memory can be opened anew, and is emptied to the same
+    -- its memory can be opened anew
     pub kept_opens : open_fault f kept.memory ≡ None
     kept_opens = opens_same f m opens kept.memory kept_holds.memory.agents kept_sized
 
+    -- and is emptied to the same
     pub kept_emptied : emptied kept.memory ≡ emptied m
     kept_emptied = emptied_same f m kept.memory opens kept_opens kept_holds.memory.agents
 
     -- ---- what it was told, its statements and its balances
 
+    -- what it was told is worked from what stands, whether it heard contracts or not
     told_by_lem : (by : Bool) → told_by by requests (map reply_of (answers_to by form (figures_of_opening o) requests start)) ≡ replies_from form o nothing_stands (heard_by by requests)
     told_by_lem true = run_told form keeps o (is_opened f m opens) nothing_stands (sound_none form o) start start_holds requests
     told_by_lem false = run_told_without form keeps o (is_opened f m opens) nothing_stands (sound_none form o) start start_holds requests
 
+    -- so it is with the figures that it was opened with
     pub kept_told : told_by contracts requests (map reply_of (answers_to contracts form f requests start)) ≡ replies_from form o nothing_stands (heard_by contracts requests)
     kept_told = ap (λ g. told_by contracts requests (map reply_of (answers_to contracts form g requests start))) (sym (same_figures f m opens)) ∙ told_by_lem contracts
 
+    -- the statements at the end
     abbrev pub statements : List Statement
     statements = statements_in f kept.memory
 
+    -- each is the one worked from what stands
     worked_so : (i : ℕ) → i < count_in o → worked_in (statement_in (hours_of f.days) i kept.memory) ≡ worked form o standing i
     worked_so i agent = statements_step form keeps o (is_opened f m opens) standing standing_sound kept.memory kept_holds.memory i agent
 
+    -- and so is its balance
     balance_so : (i : ℕ) → i < count_in o → balance_at statements i ≡ balance_of form o standing i
     balance_so i agent =
         ap (λ (st : Statement). st.balance) (get_or-map-range_with_len (λ k. statement_in (hours_of f.days) k kept.memory) 0 f.agents i i no_statement (omega (arith, agents_long f m opens)) (omega arith))
         ∙ ap (λ w. w.balance) (worked_so i agent)
 
+    -- which is small
     pub kept_small : (i : ℕ) → i < f.agents → nat_abs (balance_at statements i) ≤ 30000000000000000
     kept_small i within =
         let agent : i < count_in o = omega (arith, agents_long f m opens) in
         omega (arith, ap nat_abs (balance_so i agent), balance_abs form keeps o (is_opened f m opens) standing standing_sound i agent)
 
+    -- all statements
     statements_so : map worked_in statements ≡ map (worked form o standing) (range_with_len 0 (count_in o))
     statements_so =
         ap (λ n. map worked_in (map (λ i. statement_in (hours_of f.days) i kept.memory) (range_with_len 0 n))) (sym (agents_long f m opens))
@@ -204,6 +223,7 @@ module _ (form : Meaning) (keeps : Keeps form) (f : MonthFigures) (m : Memory) (
       balances = sum_to_ℤ f.agents (balance_at statements);
     }
 
+    -- was run as the rules say
     pub kept_ran : Ran form o (heard_by contracts requests) book
     kept_ran = record {
       answers = kept_told;

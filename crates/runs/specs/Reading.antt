@@ -28,11 +28,12 @@ request_of (Cancel number) = cancelling number
 request_of Close = closing
 request_of (StatementOf agent) = statement agent
 
--- a month is open or closed, and has its figures
+-- a month is open or closed
 abbrev pub state_of : Month → State
 state_of (Open month) = open'
 state_of (Closed month) = closed
 
+-- the figures that it was opened with
 abbrev pub figures_in : Month → MonthFigures
 figures_in (Open month) = figures_of month
 figures_in (Closed month) = closed_figures_of month

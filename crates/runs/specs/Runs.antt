@@ -21,6 +21,7 @@ pub record Kept : Type 0 where
   pub state : State
   pub memory : Memory
 
+-- from its parts
 abbrev pub kept_of : State → Memory → Kept
 kept_of state memory = record { state = state; memory = memory }
 
@@ -29,6 +30,7 @@ pub record Turn : Type 0 where
   pub answer : Answer
   pub kept : Kept
 
+-- from its parts
 abbrev pub turn_of : Answer → State → Memory → Turn
 turn_of answer state memory = record { answer = answer; kept = kept_of state memory }
 
@@ -62,6 +64,7 @@ heard_in form f (cancelling number) closed m = turn_of (Ok Skipped) closed m
 heard_in form f closing closed m = turn_of (Ok Skipped) closed m
 heard_in form f (statement agent) closed m = turn_of (stated_as (stated form f agent m)) closed m
 
+-- one request on a book as it is kept
 abbrev pub heard : Meaning → MonthFigures → Request → Kept → Turn
 heard form f r k = heard_in form f r k.state k.memory
 

@@ -52,34 +52,34 @@ fn answer_open<F: ContractForm>(
     ensures figures { figures_in result.0 ≡ figures_of month }
 {
     let answer = match call {
-        Call::Post(posting) => {
-            let pool = Pool { agents, contracts };
-            told(post(
-                &month,
-                form,
-                posting.hour,
-                posting.price,
-                &posting.lines,
-                &pool,
-                ledger,
-            ))
-        }
-        Call::Withdraw(hour) => {
-            let pool = Pool { agents, contracts };
-            told(withdraw(&month, form, *hour, &pool, ledger))
-        }
+        Call::Post(posting) => told(post(
+            &month,
+            form,
+            posting.hour,
+            posting.price,
+            &posting.lines,
+            &Pool { agents, contracts },
+            ledger,
+        )),
+        Call::Withdraw(hour) => told(withdraw(
+            &month,
+            form,
+            *hour,
+            &Pool { agents, contracts },
+            ledger,
+        )),
         Call::Enter { number, contract } => told(enter(
             &month, form, *number, *contract, agents, contracts, ledger,
         )),
         Call::Cancel(number) => told(cancel(&month, form, *number, agents, contracts, ledger)),
-        Call::Close => {
-            let pool = Pool { agents, contracts };
-            return answer_close(month, form, &pool, ledger);
-        }
-        Call::Statement(agent) => {
-            let pool = Pool { agents, contracts };
-            provisional(&month, form, *agent, &ledger.view(&pool)).map(Told::Stated)
-        }
+        Call::Close => return answer_close(month, form, &Pool { agents, contracts }, ledger),
+        Call::Statement(agent) => provisional(
+            &month,
+            form,
+            *agent,
+            &ledger.view(&Pool { agents, contracts }),
+        )
+        .map(Told::Stated),
     };
     (Month::Open(month), answer)
 }
@@ -116,8 +116,12 @@ pub fn answer<F: ContractForm>(
     match month {
         Month::Open(open) => answer_open(open, form, call, agents, contracts, ledger),
         Month::Closed(closed) => {
-            let pool = Pool { agents, contracts };
-            let answer = answer_closed(&closed, form, call, &ledger.view(&pool));
+            let answer = answer_closed(
+                &closed,
+                form,
+                call,
+                &ledger.view(&Pool { agents, contracts }),
+            );
             (Month::Closed(closed), answer)
         }
     }
