@@ -1,6 +1,6 @@
 use crate::days::day_of;
 use crate::desk::{ACCEPTED, BLOCK, RIGHT, Refusal, SHARE, Sizes, Told};
-use crate::trials::{Damage, Trial, opened, tried};
+use crate::trials::{Damage, Trial, opened, opened_over, tried};
 use book::{Agent, BookFault, LineFault};
 use forms::Contract;
 use std::test::Fail;
@@ -175,38 +175,48 @@ fn stored_figures_at_their_limits_are_accepted(rt: HostRuntime) {
     }
 }
 
+/// Contracts that may not stand.
+const WRONG_CONTRACTS: [Contract; 13] = [
+    Contract { seller: 0, ..BLOCK },
+    Contract { seller: 6, ..BLOCK },
+    Contract { buyer: 0, ..BLOCK },
+    Contract { buyer: 6, ..BLOCK },
+    Contract { buyer: 5, ..BLOCK },
+    Contract { first: 8, ..BLOCK },
+    Contract { last: 24, ..BLOCK },
+    Contract {
+        price: 2_000_001,
+        ..BLOCK
+    },
+    Contract { kind: 3, ..BLOCK },
+    Contract { margin: 1, ..BLOCK },
+    Contract {
+        seller: 2,
+        buyer: 3,
+        peak: 101,
+        ..BLOCK
+    },
+    Contract { base: 1, ..SHARE },
+    Contract { buyer: 3, ..SHARE },
+];
+
 #[test]
 fn stored_contracts_that_may_not_stand_are_refused(rt: HostRuntime) {
-    let contracts = [
-        Contract { seller: 0, ..BLOCK },
-        Contract { seller: 6, ..BLOCK },
-        Contract { buyer: 0, ..BLOCK },
-        Contract { buyer: 6, ..BLOCK },
-        Contract { buyer: 5, ..BLOCK },
-        Contract { first: 8, ..BLOCK },
-        Contract { last: 24, ..BLOCK },
-        Contract {
-            price: 2_000_001,
-            ..BLOCK
-        },
-        Contract { kind: 3, ..BLOCK },
-        Contract { margin: 1, ..BLOCK },
-        Contract {
-            seller: 2,
-            buyer: 3,
-            peak: 101,
-            ..BLOCK
-        },
-        Contract { base: 1, ..SHARE },
-        Contract { buyer: 3, ..SHARE },
-    ];
-    for contract in contracts {
+    for contract in WRONG_CONTRACTS {
         for trial in CALLS {
             assert_eq!(rt;
                 tried(RIGHT, Some(Damage::LastContract(contract)), trial),
                 STORED
             );
         }
+    }
+}
+
+#[test]
+fn an_opening_takes_any_stored_contract_and_mark(rt: HostRuntime) {
+    assert_eq!(rt; opened_over(Damage::LastMark(2)), ACCEPTED);
+    for contract in WRONG_CONTRACTS {
+        assert_eq!(rt; opened_over(Damage::LastContract(contract)), ACCEPTED);
     }
 }
 

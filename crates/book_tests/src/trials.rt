@@ -213,3 +213,12 @@ pub(crate) fn opened(sizes: Sizes) -> Told {
     let _ = month.retire();
     Ok(())
 }
+
+/// Opens a book on memory that is damaged, and tells how the opening was answered.
+pub(crate) fn opened_over(damage: Damage) -> Told {
+    let mut memory = Memory::new();
+    memory.damage(Some(damage));
+    let month = open_on(&mut memory, RIGHT)?;
+    let _ = month.retire();
+    Ok(())
+}
