@@ -1,8 +1,5 @@
-pub mod Requests
-pub mod Standing
-pub mod Worked
-pub mod Law
-pub mod Reading
-pub mod Runs
-pub mod Told
+pub mod Only
+pub mod Again
+pub mod Settlings
 pub mod Audits
+pub mod Compared

@@ -1,55 +1,183 @@
-//! The audit: a list of calls replayed and settled, with what it comes to together.
-ghost use Rattle.std.specs.Prelude.{◌≡◌, map, length, IfOk, OnErr, OnOk};
+//! The audit: three books settled over the same agents, days and form, and what they come to.
+ghost use Rattle.std.specs.Prelude.{◌≡◌, true, map, length, None, IfOk, OnErr, OnOk};
+ghost use Rattle.std.specs.List.{list_all};
 ghost use Rattle.std.specs.Result.{result_err};
-ghost use Rattle.book.specs.Calls.{emptied};
+ghost use Rattle.book.specs.Calls.{open_fault};
 ghost use Rattle.book.specs.Lent.{memory_with, SameLoan};
-ghost use Rattle.audit.specs.Audits.{lent_of, audit_fault};
-ghost use Rattle.audit.specs.Law.{Settled};
-ghost use Rattle.audit.specs.Reading.{opening_of, request_of, reply_of, worked_in};
-ghost use Rattle.audit.specs.Runs.{memory_after};
+ghost use Rattle.standing.specs.Law.{is_done, Settled};
+ghost use Rattle.standing.specs.Requests.{told_without};
+ghost use Rattle.runs.specs.Reading.{opening_of, request_of, reply_of};
+ghost use Rattle.audit.specs.Audits.{lent_with, places_fit, SamePlaces, audit_fault, book_of, places_after, asked_again, told_again};
+ghost use Rattle.audit.specs.Compared.{Compared};
+ghost use Rattle.audit.specs.Settlings.{ended};
 
-use crate::calls::{Answer, Call};
+use crate::comparisons::{
+    count_alike, count_heard, count_same, count_strangers, count_strangers_same,
+};
 use crate::residues::standing_residue;
-use crate::runs::replay;
-use crate::totals::{balances_together, fill_statements};
-use book::{Agent, BookFault, Ledger, MonthFigures, Pool, Statement, open};
-use forms::Contract;
+use crate::settling::{settle_calls, settle_standing};
+use book::{Agent, BookFault, Ledger, MonthFigures, Pool, Statement};
+use forms::{Contract, ContractForm};
+use runs::{Answer, Call};
 
-/// What a settled month comes to: all balances together, and the residue of the standing hours, both in points.
-#[derive(Clone, Copy, PartialEq, Eq, Debug)]
-pub struct Totals {
-    pub balances: i64,
-    pub residue: i64,
+/// Places that a host lends for what an audit finds: the answers of the two books that hear calls, and every agent's statement in all three.
+#[derive(Drop)]
+pub struct Findings<'f> {
+    pub answers: &'f mut [Answer],
+    pub answers_without: &'f mut [Answer],
+    pub statements: &'f mut [Statement],
+    pub statements_without: &'f mut [Statement],
+    pub statements_again: &'f mut [Statement],
 }
 
-/// Opens a month, makes the calls one after another, and settles it: each call's answer and each agent's statement is written to its place.
-/// It is refused, and nothing is written, if there are not as many answers as calls and statements as agents, or if the month cannot be opened.
-pub fn audit(
+/// What an audit comes to. Sums are in points.
+#[derive(Clone, Copy, PartialEq, Eq, Debug)]
+pub struct Report {
+    /// All balances together, of the book that heard the calls.
+    pub balances: i64,
+    /// Of the one that heard none about contracts.
+    pub balances_without: i64,
+    /// Of the one that heard only what stands in the first at the end.
+    pub balances_again: i64,
+    /// The residue of the standing hours, from their postings alone.
+    pub residue: i64,
+    /// Whether the third did all that it was asked.
+    pub repeated: bool,
+    /// How many calls the first two both heard, and how many of those were answered alike.
+    pub heard: usize,
+    pub alike: usize,
+    /// How many agents are party to no contract standing in the first, and how many of those have the same statement in the first and the second.
+    pub strangers: usize,
+    pub strangers_same: usize,
+    /// How many agents have the same statement in the first and the third.
+    pub same: usize,
+}
+
+impl Findings<'_> {
+    /// Whether there is a place for each answer, and one for each statement.
+    fn fits(&self, calls: usize, agents: usize) -> bool
+        ensures { result ≡ places_fit calls agents self.now }
+    {
+        self.answers.len() == calls
+            && self.answers_without.len() == calls
+            && self.statements.len() == agents
+            && self.statements_without.len() == agents
+            && self.statements_again.len() == agents
+    }
+}
+
+/// Settles the three books of a month that can be opened.
+fn settle_books<F: ContractForm>(
     figures: MonthFigures,
+    form: &F,
     calls: &[Call],
     agents: &[Agent],
     contracts: &mut [Option<Contract>],
     ledger: &mut Ledger<'_>,
     answers: &mut [Answer],
+    answers_without: &mut [Answer],
     statements: &mut [Statement],
-) -> Result<Totals, BookFault>
+    statements_without: &mut [Statement],
+    statements_again: &mut [Statement],
+) -> Report
+    requires opens { open_fault figures (memory_with agents.now contracts.old ledger.old) ≡ None }
+    requires answers_long { length answers.old ≡ length calls.now }
+    requires answers_without_long { length answers_without.old ≡ length calls.now }
+    requires statements_long { length statements.old ≡ length agents.now }
+    requires statements_without_long { length statements_without.old ≡ length agents.now }
+    requires statements_again_long { length statements_again.old ≡ length agents.now }
     ensures lent { SameLoan ledger.old ledger.new }
-    ensures fault { result_err result ≡ audit_fault figures (length calls.now) (lent_of (memory_with agents.now contracts.old ledger.old) answers.old statements.old) }
-    ensures untouched { OnErr result (lent_of (memory_with agents.now contracts.new ledger.new) answers.new statements.new ≡ lent_of (memory_with agents.now contracts.old ledger.old) answers.old statements.old) }
-    ensures memory { OnOk result (memory_with agents.now contracts.new ledger.new ≡ memory_after figures calls.now (emptied (memory_with agents.now contracts.old ledger.old))) }
-    ensures settled { IfOk result (λ totals. Settled (opening_of figures.days figures.weekday agents.now) (map request_of calls.now) (map reply_of answers.new) (map worked_in statements.new) totals.balances totals.residue) }
+    ensures memory { memory_with agents.now contracts.new ledger.new ≡ (ended true (F.meaning form.now) figures (asked_again (F.meaning form.now) figures agents.now (map request_of calls.now)) (memory_with agents.now contracts.old ledger.old)).memory }
+    ensures settled { Settled (F.meaning form.now) (opening_of figures.days figures.weekday agents.now) (map request_of calls.now) (book_of (map reply_of answers.new) statements.new result.balances) (book_of (told_without (map request_of calls.now) (map reply_of answers_without.new)) statements_without.new result.balances_without) (book_of (told_again (F.meaning form.now) figures (map request_of calls.now) (memory_with agents.now contracts.old ledger.old)) statements_again.new result.balances_again) result.residue }
+    ensures compared { Compared figures.agents calls.now answers.new answers_without.new (places_after (F.meaning form.now) figures agents.now (map request_of calls.now)) statements.new statements_without.new statements_again.new result }
+    ensures repeated { result.repeated ≡ list_all is_done (told_again (F.meaning form.now) figures (map request_of calls.now) (memory_with agents.now contracts.old ledger.old)) }
 {
-    // Kept: calls and answers lie apart, and agents and statements, since the host lends the places (no heap, fixed memory).
-    if answers.len() != calls.len() || statements.len() != agents.len() {
+    let first = settle_calls(
+        true, figures, form, calls, agents, contracts, ledger, answers, statements,
+    );
+    let residue = standing_residue(24 * figures.days, calls, answers);
+    // Kept as an array: the library allocates nothing.
+    let mut places = [None; 64];
+    places.copy_from_slice(contracts);
+    let second = settle_calls(
+        false,
+        figures,
+        form,
+        calls,
+        agents,
+        contracts,
+        ledger,
+        answers_without,
+        statements_without,
+    );
+    let third = settle_standing(
+        figures,
+        form,
+        calls,
+        answers,
+        &places,
+        first.closed,
+        agents,
+        contracts,
+        ledger,
+        statements_again,
+    );
+    Report {
+        balances: first.balances,
+        balances_without: second.balances,
+        balances_again: third.settlement.balances,
+        residue,
+        repeated: third.done,
+        heard: count_heard(calls),
+        alike: count_alike(calls, answers, answers_without),
+        strangers: count_strangers(figures.agents, &places),
+        strangers_same: count_strangers_same(
+            figures.agents,
+            &places,
+            statements,
+            statements_without,
+        ),
+        same: count_same(statements, statements_again),
+    }
+}
+
+/// Settles three books alike opened: the first hears the calls, the second the calls without those about contracts, and the third only what stands in
+/// the first at the end, which is left in memory. It is refused, and nothing is written, if there is not a place for each answer and each
+/// statement, or if the month cannot be opened.
+pub fn audit<F: ContractForm>(
+    figures: MonthFigures,
+    form: &F,
+    calls: &[Call],
+    agents: &[Agent],
+    contracts: &mut [Option<Contract>],
+    ledger: &mut Ledger<'_>,
+    findings: &mut Findings<'_>,
+) -> Result<Report, BookFault>
+    ensures lent { SameLoan ledger.old ledger.new }
+    ensures places { SamePlaces findings.old findings.new }
+    ensures fault { result_err result ≡ audit_fault figures (length calls.now) (memory_with agents.now contracts.old ledger.old) findings.old }
+    ensures untouched { OnErr result (lent_with (memory_with agents.now contracts.new ledger.new) findings.new ≡ lent_with (memory_with agents.now contracts.old ledger.old) findings.old) }
+    ensures memory { OnOk result (memory_with agents.now contracts.new ledger.new ≡ (ended true (F.meaning form.now) figures (asked_again (F.meaning form.now) figures agents.now (map request_of calls.now)) (memory_with agents.now contracts.old ledger.old)).memory) }
+    ensures settled { IfOk result (λ report. Settled (F.meaning form.now) (opening_of figures.days figures.weekday agents.now) (map request_of calls.now) (book_of (map reply_of findings.new.answers.now) findings.new.statements.now report.balances) (book_of (told_without (map request_of calls.now) (map reply_of findings.new.answers_without.now)) findings.new.statements_without.now report.balances_without) (book_of (told_again (F.meaning form.now) figures (map request_of calls.now) (memory_with agents.now contracts.old ledger.old)) findings.new.statements_again.now report.balances_again) report.residue) }
+    ensures compared { IfOk result (λ report. Compared figures.agents calls.now findings.new.answers.now findings.new.answers_without.now (places_after (F.meaning form.now) figures agents.now (map request_of calls.now)) findings.new.statements.now findings.new.statements_without.now findings.new.statements_again.now report) }
+    ensures repeated { IfOk result (λ report. report.repeated ≡ list_all is_done (told_again (F.meaning form.now) figures (map request_of calls.now) (memory_with agents.now contracts.old ledger.old))) }
+{
+    if !findings.fits(calls.len(), agents.len()) {
         return Err(BookFault::WrongSize);
     }
-    let month = open(figures, agents, contracts, ledger)?;
     let pool = Pool { agents, contracts };
-    replay(&month, calls, &pool, ledger, answers);
-    fill_statements(&month, &ledger.view(&pool), statements);
-    let days = month.retire().days;
-    Ok(Totals {
-        balances: balances_together(statements),
-        residue: standing_residue(24 * days, calls, answers),
-    })
+    ledger.view(&pool).check_opening(figures)?;
+    Ok(settle_books(
+        figures,
+        form,
+        calls,
+        agents,
+        contracts,
+        ledger,
+        findings.answers,
+        findings.answers_without,
+        findings.statements,
+        findings.statements_without,
+        findings.statements_again,
+    ))
 }

@@ -1,13 +1,12 @@
-//! The audit of a list of calls: the whole month is replayed and settled in memory that the host lends.
+//! The audit of a list of calls: three books are settled in memory that the host lends, and compared. One hears the list, one the list without
+//! its calls about contracts, and one only what stands in the first at the end.
 #![tactic(auto)]
 
+mod again;
 mod audits;
-mod calls;
+mod comparisons;
 mod residues;
-mod runs;
-mod totals;
+mod settling;
 
-pub use audits::{Totals, audit};
-pub use calls::replies::is_accepted;
-pub use calls::{Answer, Call, Done, Posting};
-pub use runs::answer;
+pub use audits::{Findings, Report, audit};
+pub use runs::{Answer, Call, Month, Posting, Told, answer};

@@ -1,17 +1,49 @@
-//! The residue of the standing hours, worked from their postings alone.
-ghost use Rattle.std.specs.Prelude.{◌≡◌, ◌≤◌, map, pos, unsigned_abs};
+//! What stands at each hour, as the answers tell it, and the residue of the standing hours, worked from their postings alone.
+ghost use Rattle.std.specs.Prelude.{◌≡◌, ℕ, ◌≤◌, map, None, unsigned_abs};
+ghost use Rattle.std.specs.Option.{option_map, option_copied};
 ghost use Rattle.settlement.specs.Hour.{residue_of};
 ghost use Rattle.settlement.specs.PostingFaults.{Measured};
 ghost use Rattle.settlement.specs.Sums.{sum_to_ℤ};
-ghost use Rattle.audit.specs.Reading.{request_of, reply_of};
-ghost use Rattle.audit.specs.Told.{residue_left, residue_told, Postable, AllMeasured};
+ghost use Rattle.runs.specs.Reading.{request_of, reply_of};
+ghost use Rattle.runs.specs.Told.{stands_left, stands_told, Postable};
+ghost use Rattle.audit.specs.Only.{residue_in, StandsMeasured};
 
-use crate::calls::replies::is_accepted;
-use crate::calls::{Answer, Call};
 use book::Line;
+use runs::{Answer, Call, is_accepted};
 use valuation::amount;
 
-// Kept as a clause of three functions: a type for a bounded residue is no plainer, since each would be taken apart for its sum.
+/// Which call's posting an accepted call leaves at an hour, where it was `before`.
+fn posting_left<'c>(call: &'c Call, hour: u32, before: Option<&'c Call>) -> Option<&'c Call>
+    ensures { option_map request_of (option_copied result) ≡ stands_left hour (option_map request_of (option_copied before.entry)) (request_of call.now) }
+{
+    match call {
+        Call::Post(posting) if posting.hour == hour => Some(call),
+        Call::Withdraw(at) if *at == hour => None,
+        Call::Post(_)
+        | Call::Withdraw(_)
+        | Call::Enter { .. }
+        | Call::Cancel(_)
+        | Call::Close
+        | Call::Statement(_) => before,
+    }
+}
+
+/// Which call's posting stands at an hour: the last that was accepted, or none where that was withdrawn.
+pub(crate) fn standing_posting<'c>(
+    hour: u32,
+    calls: &'c [Call],
+    answers: &[Answer],
+) -> Option<&'c Call>
+    ensures { option_map request_of (option_copied result) ≡ stands_told hour None (map request_of calls.now) (map reply_of answers.now) }
+{
+    let mut standing = None;
+    for (call, answer) in calls.iter().zip(answers) {
+        if is_accepted(answer) {
+            standing = posting_left(call, hour, standing);
+        }
+    }
+    standing
+}
 
 /// The residue of a posting: what all withdrawn energy is worth less what all injected energy is.
 fn posting_residue(price: u32, lines: &[Line]) -> i64
@@ -29,43 +61,23 @@ fn posting_residue(price: u32, lines: &[Line]) -> i64
     withdrawn as i64 - injected as i64
 }
 
-/// What an accepted call leaves as the residue of an hour, where it was `before`.
-fn residue_left(call: &Call, hour: u32, before: i64) -> i64
-    requires measured { Postable (request_of call.now) }
-    requires bound { unsigned_abs before ≤ 7680000000000 }
-    ensures value { result ≡ residue_left hour before (request_of call.now) }
-    ensures bound { unsigned_abs result ≤ 7680000000000 }
-{
-    match call {
-        Call::Post(posting) if posting.hour == hour => posting_residue(
-            posting.price,
-            &posting.lines,
-        ),
-        Call::Withdraw(at) if *at == hour => 0,
-        Call::Post(_) | Call::Withdraw(_) | Call::Provisional(_) => before,
-    }
-}
-
-/// The residue of an hour: that of its last accepted posting, or none where that was withdrawn.
+/// The residue of an hour, from the posting that stands there.
 fn hour_residue(hour: u32, calls: &[Call], answers: &[Answer]) -> i64
-    requires { AllMeasured (map request_of calls.now) (map reply_of answers.now) }
-    ensures value { result ≡ residue_told hour (pos 0) (map request_of calls.now) (map reply_of answers.now) }
+    requires { StandsMeasured (stands_told hour None (map request_of calls.now) (map reply_of answers.now)) }
+    ensures value { result ≡ residue_in (stands_told hour None (map request_of calls.now) (map reply_of answers.now)) }
     ensures bound { unsigned_abs result ≤ 7680000000000 }
 {
-    let mut residue = 0;
-    for (call, answer) in calls.iter().zip(answers) {
-        if is_accepted(answer) {
-            residue = residue_left(call, hour, residue);
-        }
+    match standing_posting(hour, calls, answers) {
+        Some(Call::Post(posting)) => posting_residue(posting.price, &posting.lines),
+        Some(_) | None => 0,
     }
-    residue
 }
 
 /// The residue of the standing hours, of which there are `hours`.
 pub(crate) fn standing_residue(hours: u32, calls: &[Call], answers: &[Answer]) -> i64
     requires few { hours ≤ 744 }
-    requires measured { AllMeasured (map request_of calls.now) (map reply_of answers.now) }
-    ensures { result ≡ sum_to_ℤ hours (λ hour. residue_told hour (pos 0) (map request_of calls.now) (map reply_of answers.now)) }
+    requires measured { (hour : ℕ) → StandsMeasured (stands_told hour None (map request_of calls.now) (map reply_of answers.now)) }
+    ensures { result ≡ sum_to_ℤ hours (λ hour. residue_in (stands_told hour None (map request_of calls.now) (map reply_of answers.now))) }
 {
     // Kept: of a chain's `sum` of signed numbers the library has no bound, so its proof didn't close.
     let mut sum = 0;

@@ -1,97 +1,129 @@
 -- Tables of faults, and what a call comes to by them. Assumes nothing.
-use Rattle.std.proofs.Common.{◌≡◌, ℕ, ◌*◌, Bool, true, false, not, eqb, List, [], ◌∷◌, length, get_or, Some, None, Ok, Err, Option, sym, refl, ap, ◌∙◌}
-use Rattle.std.proofs.lemmas.Bool.{and_parts, eqb-true}
+use Rattle.std.proofs.Common.{◌≡◌, ◌*◌, ◌≤◌, Bool, true, false, ◌||◌, eqb, List, [], ◌∷◌, length, Some, None, Ok, Err, Option, sym, refl, ap, ◌∙◌}
+use Rattle.std.specs.List.{list_all}
+use Rattle.std.proofs.lemmas.Bool.{and_parts, not-false, eqb-true, leb-true}
+use Rattle.forms.specs.Meaning.{Meaning}
 use Rattle.settlement.specs.declared.faults.BookFault.{BookFault}
-use Rattle.settlement.specs.declared.faults.BookFault.TheVariants.{WrongSize, NoCarrier, FreeHour}
-use Rattle.settlement.specs.declared.lines.Line.{Line}
+use Rattle.settlement.specs.Agents.{agent_fits}
+use Rattle.settlement.specs.ContractFaults.{place_fits}
+use Rattle.settlement.specs.Faults.{met_if, first_met, answer_of}
+use Rattle.settlement.proofs.Measured.{unmet}
 use Rattle.book.specs.declared.months.MonthFigures.{MonthFigures}
-use Rattle.settlement.specs.Holdings.{entry_of}
-use Rattle.book.specs.Calls.{outcome, outcome_of, posted, post_fault, withdrawn, withdraw_fault, rewritten}
-use Rattle.settlement.specs.Faults.{first_met, met_if, of_posting, answer_of}
-use Rattle.settlement.specs.Hour.{own_of}
-use Rattle.settlement.specs.Holdings.{no_holding}
-use Rattle.book.specs.Memory.{Memory, sized, size_fault, stored_fault}
+use Rattle.book.specs.Calls.{outcome, outcome_of}
+use Rattle.book.specs.Memory.{Memory, sized, stored_fits, mark_fits, energy_within, all_withdrawn, size_fault, stored_fault}
 use Rattle.book.specs.Months.{hours_of}
-use Rattle.settlement.specs.PostingFaults.{hour_fault, line_fault, uncarried}
 
 -- what the first two rows of a table answer, the table answers
-pub refused_early : {F : Type 0} (a b : Option F) (rest : List (Option F)) (fault : F) → Some fault ≡ first_met (a ∷ b ∷ []) → first_met (a ∷ b ∷ rest) ≡ Some fault
+refused_early : {F : Type 0} (a b : Option F) (rest : List (Option F)) (fault : F) → Some fault ≡ first_met (a ∷ b ∷ []) → first_met (a ∷ b ∷ rest) ≡ Some fault
 refused_early None None rest fault met = cc
 refused_early None (Some g) rest fault met = sym met
 refused_early (Some g) b rest fault met = sym met
 
 -- and where they answer nothing, the rest does
-pub passed_early : {F : Type 0} (a b : Option F) (rest : List (Option F)) → None ≡ first_met (a ∷ b ∷ []) → first_met (a ∷ b ∷ rest) ≡ first_met rest
+passed_early : {F : Type 0} (a b : Option F) (rest : List (Option F)) → None ≡ first_met (a ∷ b ∷ []) → first_met (a ∷ b ∷ rest) ≡ first_met rest
 passed_early None None rest none = refl
 passed_early None (Some g) rest none = cc
 passed_early (Some g) b rest none = cc
 
--- a call that meets a fault, and one that meets none
-pub refused_outcome : {X : Type 0} (met : Option BookFault) (fault : BookFault) (x : X) (before after : Memory) → met ≡ Some fault → outcome_of {X = X} (Err fault) before ≡ outcome met x before after
-refused_outcome met fault x before after is = sym (ap (λ f. outcome f x before after) is)
+-- neither of the two is met
+both_unmet : {F : Type 0} (a b : Option F) → None ≡ first_met (a ∷ b ∷ []) → (None ≡ a) × (None ≡ b)
+both_unmet None None none = (refl, refl)
+both_unmet None (Some g) none = (cc, cc)
+both_unmet (Some g) b none = (cc, cc)
 
-pub accepted_outcome : {X : Type 0} (met : Option BookFault) (x : X) (before after memory : Memory) → met ≡ None → memory ≡ after → outcome_of {X = X} (Ok x) memory ≡ outcome met x before after
-accepted_outcome met x before after memory is holds = ap (outcome_of (Ok x)) holds ∙ sym (ap (λ f. outcome f x before after) is)
+-- a row that is not met is passed over, and one that is met answers
+pub next_row : {F : Type 0} (a : Option F) (rest : List (Option F)) (answer : Option F) → None ≡ a → first_met rest ≡ answer → first_met (a ∷ rest) ≡ answer
+next_row None rest answer none is = is
+next_row (Some g) rest answer none is = cc
 
--- ---- the calls
+pub this_row : {F : Type 0} (a : Option F) (rest : List (Option F)) (fault : F) → Some fault ≡ a → first_met (a ∷ rest) ≡ Some fault
+this_row None rest fault met = cc
+this_row (Some g) rest fault met = sym met
 
-module _ (f : MonthFigures) (m : Memory) where
-  -- what the memory's own faults are told as
+-- a row of two tests, where the first was looked at alone
+pub first_meets : {F : Type 0} (a b : Bool) (fault met : F) → Some met ≡ met_if a fault → Some met ≡ met_if (a || b) fault
+first_meets true b fault met is = is
+first_meets false b fault met is = cc
+
+-- the memory of a month that no fault of memory was found in
+pub record Checked (form : Meaning) (f : MonthFigures) (m : Memory) : Type 0 where
+  pub agents_long : length m.agents ≡ f.agents
+  pub accounts_long : length m.accounts ≡ f.agents
+  pub contracts_long : length m.contracts ≡ 64
+  pub marks_long : length m.marks ≡ hours_of f.days
+  pub entries_long : length m.entries ≡ f.agents * hours_of f.days
+  pub contracts_fit : list_all (place_fits form (hours_of f.days) m.agents) m.contracts ≡ true
+  pub withdrawn_within : all_withdrawn m.accounts ≤ 2976000000
+
+module _ (form : Meaning) (f : MonthFigures) (m : Memory) where
+  -- the faults of memory, which every call but opening looks for first
   abbrev pub memory_fault : Option BookFault
-  memory_fault = first_met (size_fault f.agents (hours_of f.days) m ∷ stored_fault m ∷ [])
+  memory_fault = first_met (size_fault f.agents (hours_of f.days) m ∷ stored_fault form (hours_of f.days) m ∷ [])
 
-  -- memory of the right size
-  pub memory_sized : None ≡ memory_fault → sized f.agents (hours_of f.days) m ≡ true
-  memory_sized none = told (sized f.agents (hours_of f.days) m) refl
-    where
-      told : (b : Bool) → b ≡ sized f.agents (hours_of f.days) m → sized f.agents (hours_of f.days) m ≡ true
-      told true is = sym is
-      told false is = let met : None ≡ Some WrongSize = none ∙ ap (λ b. first_met (met_if (not b) WrongSize ∷ stored_fault m ∷ [])) (sym is) in cc
+  -- and with further rows after them
+  abbrev pub faults_then : List (Option BookFault) → Option BookFault
+  faults_then rest = first_met (size_fault f.agents (hours_of f.days) m ∷ stored_fault form (hours_of f.days) m ∷ rest)
 
-  pub entries_sized : None ≡ memory_fault → length m.entries ≡ f.agents * hours_of f.days
-  entries_sized none =
-      let a = and_parts (eqb (length m.agents) f.agents) _ (memory_sized none) in
+  pub checked : None ≡ memory_fault → Checked form f m
+  checked none =
+      let both = both_unmet (size_fault f.agents (hours_of f.days) m) (stored_fault form (hours_of f.days) m) none in
+      let long = not-false (sized f.agents (hours_of f.days) m) (unmet _ _ both.0) in
+      let fits = not-false (stored_fits form (hours_of f.days) m) (unmet _ _ both.1) in
+      let a = and_parts (eqb (length m.agents) f.agents) _ long in
       let b = and_parts (eqb (length m.accounts) f.agents) _ a.1 in
       let c = and_parts (eqb (length m.contracts) 64) _ b.1 in
       let d = and_parts (eqb (length m.marks) (hours_of f.days)) _ c.1 in
-      eqb-true _ _ d.1
+      let p = and_parts (list_all agent_fits m.agents) _ fits in
+      let q = and_parts (list_all (place_fits form (hours_of f.days) m.agents) m.contracts) _ p.1 in
+      let r = and_parts (list_all mark_fits m.marks) _ q.1 in
+      let s = and_parts (list_all (energy_within 4000000) m.entries) _ r.1 in
+      let t = and_parts (list_all (energy_within 2976000000) m.accounts) _ s.1 in
+      record {
+        agents_long = eqb-true _ _ a.0;
+        accounts_long = eqb-true _ _ b.0;
+        contracts_long = eqb-true _ _ c.0;
+        marks_long = eqb-true _ _ d.0;
+        entries_long = eqb-true _ _ d.1;
+        contracts_fit = q.0;
+        withdrawn_within = leb-true _ _ t.1;
+      }
 
-  pub accounts_sized : None ≡ memory_fault → length m.accounts ≡ f.agents
-  accounts_sized none =
-      let a = and_parts (eqb (length m.agents) f.agents) _ (memory_sized none) in
-      eqb-true _ _ (and_parts (eqb (length m.accounts) f.agents) _ a.1).0
+  -- ---- a check that answers by the table alone
 
-  pub post_refused : (hour price : ℕ) (lines : List Line) (fault : BookFault) → Some fault ≡ memory_fault → outcome_of (Err fault) m ≡ posted f hour price lines m
-  post_refused hour price lines fault met =
-      refused_outcome (post_fault f hour price lines m) fault tt m _ (refused_early (size_fault f.agents (hours_of f.days) m) (stored_fault m) _ fault met)
+  module _ (rest : List (Option BookFault)) where
+    -- memory refuses it
+    pub memory_refuses : (fault : BookFault) → Some fault ≡ memory_fault → Some fault ≡ faults_then rest
+    memory_refuses fault met = sym (refused_early (size_fault f.agents (hours_of f.days) m) (stored_fault form (hours_of f.days) m) rest fault met)
 
-  pub post_accepted : (hour price : ℕ) (lines : List Line) (memory : Memory) → None ≡ memory_fault →
-      None ≡ line_fault f.agents (hours_of f.days) m.agents hour price lines → None ≡ met_if (uncarried m.agents price lines) NoCarrier →
-      memory ≡ rewritten (hours_of f.days) hour 1 (λ i. entry_of (own_of m.agents price lines i)) m → outcome_of (Ok tt) memory ≡ posted f hour price lines m
-  post_accepted hour price lines memory none own carried holds =
-      accepted_outcome (post_fault f hour price lines m) tt m _ memory
-      (passed_early (size_fault f.agents (hours_of f.days) m) (stored_fault m) _ none
-      ∙ (λ k. first_met (of_posting (sym own k) ∷ sym carried k ∷ [])))
-      holds
+    -- memory does not, and the rest decides
+    pub memory_passes : None ≡ memory_fault → first_met rest ≡ faults_then rest
+    memory_passes none = sym (passed_early (size_fault f.agents (hours_of f.days) m) (stored_fault form (hours_of f.days) m) rest none)
 
-  pub withdraw_refused : (hour : ℕ) (fault : BookFault) → Some fault ≡ memory_fault → outcome_of (Err fault) m ≡ withdrawn f hour m
-  withdraw_refused hour fault met =
-      refused_outcome (withdraw_fault f hour m) fault tt m _ (refused_early (size_fault f.agents (hours_of f.days) m) (stored_fault m) _ fault met)
+  -- ---- a call that answers with a whole memory
 
-  pub withdraw_accepted : (hour : ℕ) (memory : Memory) → None ≡ memory_fault → None ≡ hour_fault (hours_of f.days) hour → eqb (get_or m.marks hour 0) 0 ≡ false →
-      memory ≡ rewritten (hours_of f.days) hour 0 (λ i. no_holding) m → outcome_of (Ok tt) memory ≡ withdrawn f hour m
-  withdraw_accepted hour memory none inside stands holds =
-      accepted_outcome (withdraw_fault f hour m) tt m _ memory
-      (passed_early (size_fault f.agents (hours_of f.days) m) (stored_fault m) _ none
-      ∙ (λ k. first_met (of_posting (sym inside k) ∷ met_if (stands k) (FreeHour hour) ∷ [])))
-      holds
+  module _ {X : Type 0} (rest : List (Option BookFault)) (x : X) (after : Memory) where
+    -- memory refuses it
+    pub refused_at_memory : (fault : BookFault) → Some fault ≡ memory_fault → outcome_of (Err fault) m ≡ outcome (faults_then rest) x m after
+    refused_at_memory fault met =
+        sym (ap (λ o. outcome o x m after) (refused_early (size_fault f.agents (hours_of f.days) m) (stored_fault form (hours_of f.days) m) rest fault met))
 
-  -- a call that gives something and changes no memory
-  pub look_refused : {X : Type 0} (row : Option BookFault) (x : X) (fault : BookFault) → Some fault ≡ memory_fault →
-      Err fault ≡ answer_of x (first_met (size_fault f.agents (hours_of f.days) m ∷ stored_fault m ∷ row ∷ []))
-  look_refused row x fault met = sym (ap (answer_of x) (refused_early (size_fault f.agents (hours_of f.days) m) (stored_fault m) (row ∷ []) fault met))
+    -- a later row refuses it
+    pub refused_later : (fault : BookFault) → None ≡ memory_fault → first_met rest ≡ Some fault → outcome_of (Err fault) m ≡ outcome (faults_then rest) x m after
+    refused_later fault none met =
+        sym (ap (λ o. outcome o x m after) (passed_early (size_fault f.agents (hours_of f.days) m) (stored_fault form (hours_of f.days) m) rest none ∙ met))
 
-  pub look_accepted : {X : Type 0} (row : Option BookFault) (x y : X) → None ≡ memory_fault → row ≡ None → y ≡ x →
-      Ok y ≡ answer_of x (first_met (size_fault f.agents (hours_of f.days) m ∷ stored_fault m ∷ row ∷ []))
-  look_accepted row x y none known same =
-      ap Ok same ∙ sym (ap (answer_of x) (passed_early (size_fault f.agents (hours_of f.days) m) (stored_fault m) (row ∷ []) none ∙ (λ k. first_met (known k ∷ []))))
+    -- no row refuses it
+    pub accepted : (memory : Memory) → None ≡ memory_fault → first_met rest ≡ None → memory ≡ after → outcome_of (Ok x) memory ≡ outcome (faults_then rest) x m after
+    accepted memory none unmet-all holds =
+        ap (outcome_of (Ok x)) holds
+        ∙ sym (ap (λ o. outcome o x m after) (passed_early (size_fault f.agents (hours_of f.days) m) (stored_fault form (hours_of f.days) m) rest none ∙ unmet-all))
+
+  -- ---- a call that changes no memory
+
+  module _ {X : Type 0} (rest : List (Option BookFault)) (x : X) where
+    pub look_refused : (fault : BookFault) → Some fault ≡ memory_fault → Err fault ≡ answer_of x (faults_then rest)
+    look_refused fault met = sym (ap (answer_of x) (refused_early (size_fault f.agents (hours_of f.days) m) (stored_fault form (hours_of f.days) m) rest fault met))
+
+    pub look_refused_later : (fault : BookFault) → None ≡ memory_fault → first_met rest ≡ Some fault → Err fault ≡ answer_of x (faults_then rest)
+    look_refused_later fault none met =
+        sym (ap (answer_of x) (passed_early (size_fault f.agents (hours_of f.days) m) (stored_fault form (hours_of f.days) m) rest none ∙ met))

@@ -1,22 +1,28 @@
 -- Each call on a book: its answer, and all memory after it. Assumes nothing.
 use Rattle.std.specs.Prelude.{ℕ, ◌+◌, ◌-◌, ◌*◌, ◌/◌, ◌%◌, cond, not, ◌||◌, List, [], ◌∷◌, map, length, get_or, take, drop, replicate, ◌+ℤ◌, Some, None, Ok, Err, Option, Result, ◌==◌, nat_lt, slice_index, slice_index_or, slice_set}
 use Rattle.std.specs.List.{range_with_len, list_all}
+use Rattle.std.specs.Option.{option_map}
 use Rattle.std.specs.Int.{int_wrap, w64}
 use Rattle.tally.specs.declared.peak.Peak.{Peak}
 use Rattle.tally.specs.Peak.{peak_of, no_peak, peak_joined}
 use Rattle.tally.specs.Total.{total}
+use Rattle.forms.specs.declared.Contract.{Contract}
+use Rattle.forms.specs.Meaning.{Meaning}
 use Rattle.settlement.specs.declared.lines.Line.{Line}
+use Rattle.settlement.specs.declared.faults.BookFault.{BookFault}
+use Rattle.settlement.specs.declared.faults.BookFault.TheVariants.{OutsideBook, NoCarrier, FreeHour, MissingHour, NoPowerCarrier}
+use Rattle.settlement.specs.Agents.{agent_fits}
+use Rattle.settlement.specs.ContractFaults.{taken_fault, vacant_fault, terms_fault, covered_fault, covered_in, place_at}
+use Rattle.settlement.specs.Faults.{met_if, first_met, of_posting, answer_of}
+use Rattle.settlement.specs.Holdings.{Holding, no_holding, holding_joined, holding_undone, withdrawn_on, entry_of, power_points}
+use Rattle.settlement.specs.Pool.{Pool, pool_of, hour_of}
+use Rattle.settlement.specs.PostingFaults.{hour_fault, line_fault, uncarried}
+use Rattle.settlement.specs.Power.{power_uncarried, power_line}
+use Rattle.settlement.specs.Sums.{first_failing}
 use Rattle.book.specs.declared.months.MonthFigures.{MonthFigures}
 use Rattle.book.specs.declared.statements.Statement.{Statement}
-use Rattle.settlement.specs.declared.faults.BookFault.{BookFault}
-use Rattle.settlement.specs.declared.faults.BookFault.TheVariants.{OutsideBook, NoCarrier, FreeHour}
-use Rattle.settlement.specs.Agents.{agent_fits}
-use Rattle.settlement.specs.Faults.{met_if, first_met, of_posting, answer_of}
-use Rattle.settlement.specs.Hour.{own_of}
-use Rattle.settlement.specs.Holdings.{Holding, no_holding, holding_joined, holding_undone, entry_of}
-use Rattle.book.specs.Memory.{Memory, size_fault, stored_fault}
+use Rattle.book.specs.Memory.{Memory, is_posted, size_fault, stored_fault}
 use Rattle.book.specs.Months.{hours_of, size_known}
-use Rattle.settlement.specs.PostingFaults.{hour_fault, line_fault, uncarried}
 
 -- what a call comes to: its answer, and all memory after it
 pub record Outcome (X : Type 0) : Type 0 where
@@ -80,31 +86,87 @@ rewritten hours hour mark new m = record {
   entries = entries_with hours hour new m.entries;
 }
 
+-- what hours are settled with: the form, and the contracts that are stored
+abbrev pub pool_in : Meaning → MonthFigures → Memory → Pool
+pool_in form f m = pool_of form f.weekday m.agents m.contracts
+
 -- ---- posting
 
 -- the faults of a posting, in the order of the numbers
-abbrev pub post_fault : MonthFigures → (hour price : ℕ) → List Line → Memory → Option BookFault
-post_fault f hour price lines m =
-    first_met (size_fault f.agents (hours_of f.days) m ∷ stored_fault m
+abbrev pub post_fault : Meaning → MonthFigures → (hour price : ℕ) → List Line → Memory → Option BookFault
+post_fault form f hour price lines m =
+    first_met (size_fault f.agents (hours_of f.days) m ∷ stored_fault form (hours_of f.days) m
     ∷ of_posting (line_fault f.agents (hours_of f.days) m.agents hour price lines)
     ∷ met_if (uncarried m.agents price lines) NoCarrier ∷ [])
 
-abbrev pub posted : MonthFigures → (hour price : ℕ) → List Line → Memory → Outcome (Unit {0})
-posted f hour price lines m =
-    outcome (post_fault f hour price lines m) tt m
-    (rewritten (hours_of f.days) hour 1 (λ i. entry_of (own_of m.agents price lines i)) m)
+abbrev pub posted : Meaning → MonthFigures → (hour price : ℕ) → List Line → Memory → Outcome (Unit {0})
+posted form f hour price lines m =
+    outcome (post_fault form f hour price lines m) tt m
+    (rewritten (hours_of f.days) hour 1 (λ i. entry_of (hour_of (pool_in form f m) hour price lines i)) m)
 
 -- ---- withdrawal
 
 -- the faults of a withdrawal: at last, that the hour is free
-abbrev pub withdraw_fault : MonthFigures → (hour : ℕ) → Memory → Option BookFault
-withdraw_fault f hour m =
-    first_met (size_fault f.agents (hours_of f.days) m ∷ stored_fault m ∷ of_posting (hour_fault (hours_of f.days) hour)
+abbrev pub withdraw_fault : Meaning → MonthFigures → (hour : ℕ) → Memory → Option BookFault
+withdraw_fault form f hour m =
+    first_met (size_fault f.agents (hours_of f.days) m ∷ stored_fault form (hours_of f.days) m ∷ of_posting (hour_fault (hours_of f.days) hour)
     ∷ met_if (slice_index m.marks hour == 0) (FreeHour hour) ∷ [])
 
 -- a withdrawal leaves neutral entries
-abbrev pub withdrawn : MonthFigures → (hour : ℕ) → Memory → Outcome (Unit {0})
-withdrawn f hour m = outcome (withdraw_fault f hour m) tt m (rewritten (hours_of f.days) hour 0 (λ i. no_holding) m)
+abbrev pub withdrawn : Meaning → MonthFigures → (hour : ℕ) → Memory → Outcome (Unit {0})
+withdrawn form f hour m = outcome (withdraw_fault form f hour m) tt m (rewritten (hours_of f.days) hour 0 (λ i. no_holding) m)
+
+-- ---- contracts
+
+-- memory with another content of a contract place
+abbrev pub placed : (number : ℕ) → Option Contract → Memory → Memory
+placed number c m = record {
+  agents = m.agents;
+  accounts = m.accounts;
+  contracts = slice_set m.contracts (number - 1) c;
+  marks = m.marks;
+  entries = m.entries;
+}
+
+-- the faults of entering a contract: its number, what it says, and at last that a covered hour stands
+abbrev pub enter_fault : Meaning → MonthFigures → (number : ℕ) → Contract → Memory → Option BookFault
+enter_fault form f number c m =
+    first_met (size_fault f.agents (hours_of f.days) m ∷ stored_fault form (hours_of f.days) m ∷ taken_fault m.contracts number
+    ∷ terms_fault form (hours_of f.days) m.agents c ∷ covered_fault (is_posted m.marks) c ∷ [])
+
+abbrev pub entered : Meaning → MonthFigures → (number : ℕ) → Contract → Memory → Outcome (Unit {0})
+entered form f number c m = outcome (enter_fault form f number c m) tt m (placed number (Some c) m)
+
+-- the faults of cancelling one: its number, and at last that a covered hour stands
+abbrev pub cancel_fault : Meaning → MonthFigures → (number : ℕ) → Memory → Option BookFault
+cancel_fault form f number m =
+    first_met (size_fault f.agents (hours_of f.days) m ∷ stored_fault form (hours_of f.days) m ∷ vacant_fault m.contracts number
+    ∷ covered_in (is_posted m.marks) (place_at m.contracts number) ∷ [])
+
+abbrev pub cancelled : Meaning → MonthFigures → (number : ℕ) → Memory → Outcome (Unit {0})
+cancelled form f number m = outcome (cancel_fault form f number m) tt m (placed number None m)
+
+-- ---- closing
+
+-- the faults of a closing: an hour is missing, and at last that power is due and nothing carries it
+abbrev pub close_fault : Meaning → MonthFigures → Memory → Option BookFault
+close_fault form f m =
+    first_met (size_fault f.agents (hours_of f.days) m ∷ stored_fault form (hours_of f.days) m
+    ∷ option_map (λ hour. MissingHour hour) (first_failing (is_posted m.marks) 0 (hours_of f.days))
+    ∷ met_if (power_uncarried m.agents (withdrawn_on m.accounts)) NoPowerCarrier ∷ [])
+
+-- every account gains its power line
+abbrev pub charged : Memory → Memory
+charged m = record {
+  agents = m.agents;
+  accounts = map (λ i. holding_joined (slice_index_or m.accounts i no_holding) (power_points (power_line m.agents (withdrawn_on m.accounts) i))) (range_with_len 0 (length m.accounts));
+  contracts = m.contracts;
+  marks = m.marks;
+  entries = m.entries;
+}
+
+abbrev pub closed : Meaning → MonthFigures → Memory → Outcome MonthFigures
+closed form f m = outcome (close_fault form f m) f m (charged m)
 
 -- ---- statements
 
@@ -126,12 +188,12 @@ abbrev pub statement_in : (hours i : ℕ) → Memory → Statement
 statement_in hours i m = statement_of (slice_index_or m.accounts i no_holding) (peak_over hours (λ hour. get_or m.entries (entry_place hours i hour) no_holding))
 
 -- the faults of a statement: at last, that the agent is not in the book
-abbrev pub statement_fault : MonthFigures → (agent : ℕ) → Memory → Option BookFault
-statement_fault f agent m =
-    first_met (size_fault f.agents (hours_of f.days) m ∷ stored_fault m ∷ met_if (agent == 0 || nat_lt f.agents agent) OutsideBook ∷ [])
+abbrev pub statement_fault : Meaning → MonthFigures → (agent : ℕ) → Memory → Option BookFault
+statement_fault form f agent m =
+    first_met (size_fault f.agents (hours_of f.days) m ∷ stored_fault form (hours_of f.days) m ∷ met_if (agent == 0 || nat_lt f.agents agent) OutsideBook ∷ [])
 
-abbrev pub stated : MonthFigures → (agent : ℕ) → Memory → Result Statement BookFault
-stated f agent m = answer_of (statement_in (hours_of f.days) (agent - 1) m) (statement_fault f agent m)
+abbrev pub stated : Meaning → MonthFigures → (agent : ℕ) → Memory → Result Statement BookFault
+stated form f agent m = answer_of (statement_in (hours_of f.days) (agent - 1) m) (statement_fault form f agent m)
 
 -- ---- a day
 
@@ -144,10 +206,10 @@ abbrev pub day_sum : (hours i day : ℕ) → List Holding → Holding
 day_sum hours i day entries = total no_holding holding_joined (day_of hours i day entries)
 
 -- the faults of a day: at last, that the agent or the day, both from 1, is not in the book
-abbrev pub day_fault : MonthFigures → (agent day : ℕ) → Memory → Option BookFault
-day_fault f agent day m =
-    first_met (size_fault f.agents (hours_of f.days) m ∷ stored_fault m
+abbrev pub day_fault : Meaning → MonthFigures → (agent day : ℕ) → Memory → Option BookFault
+day_fault form f agent day m =
+    first_met (size_fault f.agents (hours_of f.days) m ∷ stored_fault form (hours_of f.days) m
     ∷ met_if ((agent == 0 || nat_lt f.agents agent) || (day == 0 || nat_lt f.days day)) OutsideBook ∷ [])
 
-abbrev pub day_stated : MonthFigures → (agent day : ℕ) → Memory → Result Holding BookFault
-day_stated f agent day m = answer_of (day_sum (hours_of f.days) (agent - 1) (day - 1) m.entries) (day_fault f agent day m)
+abbrev pub day_stated : Meaning → MonthFigures → (agent day : ℕ) → Memory → Result Holding BookFault
+day_stated form f agent day m = answer_of (day_sum (hours_of f.days) (agent - 1) (day - 1) m.entries) (day_fault form f agent day m)

@@ -1,11 +1,13 @@
 -- The memory of a book that the host lends, and what a call finds wrong in it. Assumes nothing.
-use Rattle.std.specs.Prelude.{ℕ, ◌*◌, Bool, not, ◌&&◌, List, length, sum_by, Option, ◌==◌, nat_le}
+use Rattle.std.specs.Prelude.{ℕ, ◌*◌, Bool, not, ◌&&◌, List, length, sum_by, Option, ◌==◌, nat_le, slice_index}
 use Rattle.std.specs.List.{list_all}
 use Rattle.forms.specs.declared.Contract.{Contract}
+use Rattle.forms.specs.Meaning.{Meaning}
 use Rattle.settlement.specs.declared.agents.Agent.{Agent}
 use Rattle.settlement.specs.declared.faults.BookFault.{BookFault}
 use Rattle.settlement.specs.declared.faults.BookFault.TheVariants.{WrongSize, StoredOutside}
 use Rattle.settlement.specs.Agents.{agent_fits}
+use Rattle.settlement.specs.ContractFaults.{place_fits}
 use Rattle.settlement.specs.Faults.{met_if}
 use Rattle.settlement.specs.Holdings.{Holding}
 
@@ -36,19 +38,24 @@ energy_within most holding = nat_le holding.second.injected most && nat_le holdi
 abbrev pub all_withdrawn : List Holding → ℕ
 all_withdrawn accounts = sum_by (λ account. account.second.withdrawn) accounts
 
--- stored figures are within their limits: entries 4,000,000 kWh, accounts 2,976,000,000, and so all withdrawn energy together
-abbrev pub stored_fits : Memory → Bool
-stored_fits m =
-    list_all agent_fits m.agents && (list_all mark_fits m.marks && (list_all (energy_within 4000000) m.entries
-    && (list_all (energy_within 2976000000) m.accounts && nat_le (all_withdrawn m.accounts) 2976000000)))
+-- whether a mark says that a posting stands at an hour
+abbrev pub is_posted : List ℕ → ℕ → Bool
+is_posted marks hour = not (slice_index marks hour == 0)
+
+-- stored figures are within their limits: agents, contracts by the test of an entry, marks, and the energies of entries, 4,000,000 kWh, of accounts,
+-- 2,976,000,000, and so of all withdrawn energy together
+abbrev pub stored_fits : Meaning → (hours : ℕ) → Memory → Bool
+stored_fits form hours m =
+    list_all agent_fits m.agents && (list_all (place_fits form hours m.agents) m.contracts && (list_all mark_fits m.marks
+    && (list_all (energy_within 4000000) m.entries && (list_all (energy_within 2976000000) m.accounts && nat_le (all_withdrawn m.accounts) 2976000000))))
 
 -- 1: memory of the wrong size
 abbrev pub size_fault : (count hours : ℕ) → Memory → Option BookFault
 size_fault count hours m = met_if (not (sized count hours m)) WrongSize
 
 -- 2: a stored figure outside its limit
-abbrev pub stored_fault : Memory → Option BookFault
-stored_fault m = met_if (not (stored_fits m)) StoredOutside
+abbrev pub stored_fault : Meaning → (hours : ℕ) → Memory → Option BookFault
+stored_fault form hours m = met_if (not (stored_fits form hours m)) StoredOutside
 
 -- all memory, from its parts
 abbrev pub memory_of : List Agent → List Holding → List (Option Contract) → List ℕ → List Holding → Memory

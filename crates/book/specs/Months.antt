@@ -1,7 +1,10 @@
--- The month: its figures and its hours. Assumes nothing.
+-- The month, open or closed: its figures and its hours. Assumes nothing.
 use Rattle.std.specs.Prelude.{ℕ, ◌*◌, Bool, ◌&&◌, Ok, Err, Result, nat_le}
 use Rattle.calendar.specs.Weekdays.{number_of}
+use Rattle.settlement.specs.declared.faults.BookFault.{BookFault}
+use Rattle.book.specs.declared.months.Month.{Month}
 use Rattle.book.specs.declared.months.OpenMonth.{OpenMonth}
+use Rattle.book.specs.declared.months.ClosedMonth.{ClosedMonth}
 use Rattle.book.specs.declared.months.MonthFigures.{MonthFigures}
 
 -- the figures of a month to be opened
@@ -9,13 +12,25 @@ abbrev pub month_figures : (agents days weekday : ℕ) → MonthFigures
 month_figures agents days weekday = record { agents = agents; days = days; weekday = weekday }
 
 -- the figures of a month
+abbrev pub figures_in : Month → MonthFigures
+figures_in month = record { agents = month.agents; days = month.days; weekday = number_of month.first }
+
+-- those of an open month, and of a closed one
 abbrev pub figures_of : OpenMonth → MonthFigures
-figures_of month = record { agents = month.agents; days = month.days; weekday = number_of month.first }
+figures_of month = figures_in month.month
+
+abbrev pub closed_figures_of : ClosedMonth → MonthFigures
+closed_figures_of month = figures_in month.month
 
 -- an opening's answer, by the figures of the month that it gives
 abbrev pub opened_as : {F : Type 0} → Result OpenMonth F → Result MonthFigures F
 opened_as (Ok month) = Ok (figures_of month)
 opened_as (Err fault) = Err fault
+
+-- a closing's answer, by the figures of the month that it gives: where it is refused, the open month comes back beside the fault
+abbrev pub closed_as : Result ClosedMonth (OpenMonth × BookFault) → Result MonthFigures BookFault
+closed_as (Ok month) = Ok (closed_figures_of month)
+closed_as (Err back) = Err back.1
 
 -- the hours of so many days
 abbrev pub hours_of : ℕ → ℕ

@@ -3,6 +3,8 @@
 //! Every call answers, whatever figures and memory it is given; a refusal names its fault and leaves all memory as it was.
 #![tactic(auto)]
 
+mod closing;
+mod entering;
 mod memory;
 mod months;
 mod opening;
@@ -11,10 +13,12 @@ mod rewrites;
 mod statements;
 mod views;
 
+pub use closing::close;
+pub use entering::{cancel, enter};
 pub use memory::{Ledger, Pool, View};
-pub use months::{MonthFigures, OpenMonth};
+pub use months::{ClosedMonth, MonthFigures, OpenMonth};
 pub use opening::open;
 pub use posting::{post, withdraw};
 pub use settlement::{Account, Agent, BookFault, Entry, Line, LineFault};
 pub use statements::Statement;
-pub use views::{day_total, provisional};
+pub use views::{day_total, final_statement, provisional};

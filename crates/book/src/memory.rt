@@ -7,7 +7,7 @@ pub(crate) mod checks;
 use forms::Contract;
 use settlement::{Account, Agent, Entry};
 
-/// Who takes part in a month, and the contract places: looked into by every call, and written by none of those on an open month.
+/// Who takes part in a month, and the contract places: looked into by every call, and written only by those on contracts.
 #[derive(Clone, Copy)]
 pub struct Pool<'p> {
     pub agents: &'p [Agent],

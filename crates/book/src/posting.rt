@@ -1,7 +1,10 @@
 //! Posting an hour, and withdrawing it.
-ghost use Rattle.std.specs.Prelude.{◌≡◌, ◌*◌, length};
+ghost use Rattle.std.specs.Prelude.{◌≡◌, ◌*◌, true, length};
+ghost use Rattle.std.specs.List.{list_all};
+ghost use Rattle.calendar.specs.Weekdays.{number_of};
+ghost use Rattle.settlement.specs.ContractFaults.{place_fits};
 ghost use Rattle.settlement.specs.Holdings.{entry_of};
-ghost use Rattle.settlement.specs.Hour.{own_of};
+ghost use Rattle.settlement.specs.Pool.{pool_of, hour_of};
 ghost use Rattle.book.specs.Calls.{outcome_of, posted, withdrawn, entries_with, accounts_with};
 ghost use Rattle.book.specs.Lent.{memory_in, SameLoan};
 ghost use Rattle.book.specs.Months.{figures_of, hours_of};
@@ -9,38 +12,46 @@ ghost use Rattle.book.specs.Months.{figures_of, hours_of};
 use crate::memory::{Ledger, Pool};
 use crate::months::OpenMonth;
 use crate::rewrites::replace_hour;
+use calendar::Weekday;
+use forms::{Contract, ContractForm};
 use settlement::{Account, BookFault, Entry, Line, MeasuredPosting};
 use tally::{Pair, Tally};
 
 // Kept as numbers, as the marks of lent memory are (fixed memory).
 
 /// The mark of an hour at which nothing stands.
-const FREE: u8 = 0;
+pub(crate) const FREE: u8 = 0;
 
 /// The mark of an hour at which a posting stands.
 const POSTED: u8 = 1;
 
-/// Writes what a posting gives each agent at its hour; the fresh entries are scratch memory.
-fn write_posting(
+/// Writes what a posting gives each agent at its hour, with the contracts that cover it; the fresh entries are scratch memory.
+fn write_posting<F: ContractForm>(
     posting: &MeasuredPosting<'_>,
+    form: &F,
+    first: Weekday,
+    contracts: &[Option<Contract>],
     fresh: &mut [Entry],
     accounts: &mut [Account],
     entries: &mut [Entry],
 )
+    requires fit { list_all (place_fits (F.meaning form.now) (hours_of posting.now.stamp.days) posting.now.agents.now) contracts.now ≡ true }
     requires fresh_long { length fresh.old ≡ length posting.now.lines.now }
     requires accounts_long { length accounts.old ≡ length posting.now.lines.now }
     requires entries_long { length entries.old ≡ length posting.now.lines.now * hours_of posting.now.stamp.days }
-    ensures entries { entries.new ≡ entries_with (hours_of posting.now.stamp.days) posting.now.stamp.hour (λ i. entry_of (own_of posting.now.agents.now posting.now.price posting.now.lines.now i)) entries.old }
-    ensures accounts { accounts.new ≡ accounts_with (hours_of posting.now.stamp.days) posting.now.stamp.hour (λ i. entry_of (own_of posting.now.agents.now posting.now.price posting.now.lines.now i)) entries.old accounts.old }
+    ensures entries { entries.new ≡ entries_with (hours_of posting.now.stamp.days) posting.now.stamp.hour (λ i. entry_of (hour_of (pool_of (F.meaning form.now) (number_of first) posting.now.agents.now contracts.now) posting.now.stamp.hour posting.now.price posting.now.lines.now i)) entries.old }
+    ensures accounts { accounts.new ≡ accounts_with (hours_of posting.now.stamp.days) posting.now.stamp.hour (λ i. entry_of (hour_of (pool_of (F.meaning form.now) (number_of first) posting.now.agents.now contracts.now) posting.now.stamp.hour posting.now.price posting.now.lines.now i)) entries.old accounts.old }
 {
-    posting.fill_entries(fresh);
+    posting.fill_hour(form, first, contracts, fresh);
     replace_hour(posting.stamp, fresh, accounts, entries);
 }
 
-/// Posts an hour: its price, and a line for each agent. The posting of an hour that is posted already corrects it.
+/// Posts an hour: its price, and a line for each agent. The posting of an hour that is posted already corrects it. Each standing contract that covers
+/// the hour puts its legs on the parties' contract lines.
 // Kept apart: a struct of hour, price and lines is no plainer, since it would be made at each call and taken apart at once.
-pub fn post(
+pub fn post<F: ContractForm>(
     month: &OpenMonth,
+    form: &F,
     hour: u32,
     price: u32,
     lines: &[Line],
@@ -48,16 +59,19 @@ pub fn post(
     ledger: &mut Ledger<'_>,
 ) -> Result<(), BookFault>
     ensures lent { SameLoan ledger.old ledger.new }
-    ensures value { outcome_of result (memory_in pool.now ledger.new) ≡ posted (figures_of month.now) hour price lines.now (memory_in pool.now ledger.old) }
+    ensures value { outcome_of result (memory_in pool.now ledger.new) ≡ posted (F.meaning form.now) (figures_of month.now) hour price lines.now (memory_in pool.now ledger.old) }
 {
-    ledger.view(pool).check(month)?;
-    let posting = month.check_posting(hour, price, lines, pool.agents)?;
+    ledger.view(pool).check(form, &month.month)?;
+    let posting = month.month.check_posting(hour, price, lines, pool.agents)?;
     posting.check_carriers()?;
     let nothing: Entry = Pair::neutral();
     // Kept as an array, here and in `withdraw`: the library allocates nothing.
     let mut fresh = [nothing; 64];
     write_posting(
         &posting,
+        form,
+        month.month.first,
+        pool.contracts,
         &mut fresh[..lines.len()],
         ledger.accounts,
         ledger.entries,
@@ -67,17 +81,18 @@ pub fn post(
 }
 
 /// Withdraws an hour's posting: the hour is free, and its entries are neutral.
-pub fn withdraw(
+pub fn withdraw<F: ContractForm>(
     month: &OpenMonth,
+    form: &F,
     hour: u32,
     pool: &Pool<'_>,
     ledger: &mut Ledger<'_>,
 ) -> Result<(), BookFault>
     ensures lent { SameLoan ledger.old ledger.new }
-    ensures value { outcome_of result (memory_in pool.now ledger.new) ≡ withdrawn (figures_of month.now) hour (memory_in pool.now ledger.old) }
+    ensures value { outcome_of result (memory_in pool.now ledger.new) ≡ withdrawn (F.meaning form.now) (figures_of month.now) hour (memory_in pool.now ledger.old) }
 {
-    ledger.view(pool).check(month)?;
-    let stamp = month.check_hour(hour)?;
+    ledger.view(pool).check(form, &month.month)?;
+    let stamp = month.month.check_hour(hour)?;
     if ledger.marks[hour as usize] == FREE {
         return Err(BookFault::FreeHour(hour));
     }

@@ -1,4 +1,4 @@
-//! What an open month shows: the statement of an agent, and a day of it.
+//! What a month shows: the statement of an agent, provisional or final, and a day of it.
 ghost use Rattle.std.specs.Prelude.{◌≡◌, ◌+◌, ◌≤◌, map, length, take, drop, ◌+ℤ◌, slice_index_or};
 ghost use Rattle.std.specs.List.{range_with_len};
 ghost use Rattle.std.specs.Int.{int_wrap, w64};
@@ -7,11 +7,12 @@ ghost use Rattle.tally.specs.Total.{total};
 ghost use Rattle.book.specs.Calls.{stated, day_stated, statement_of, peak_over};
 ghost use Rattle.settlement.specs.Holdings.{no_holding, holding_joined};
 ghost use Rattle.book.specs.Lent.{memory_seen};
-ghost use Rattle.book.specs.Months.{figures_of};
+ghost use Rattle.book.specs.Months.{figures_in, figures_of, closed_figures_of};
 
 use crate::memory::View;
-use crate::months::OpenMonth;
+use crate::months::{ClosedMonth, Month, OpenMonth};
 use crate::statements::Statement;
+use forms::ContractForm;
 use settlement::{Account, BookFault, Entry};
 use tally::{Money, Peak, Tally, fold, fold_day};
 
@@ -68,40 +69,65 @@ fn statement(account: Account, peak: Peak) -> Statement
     }
 }
 
-/// The provisional statement of an agent, counted from 1.
-pub fn provisional(
-    month: &OpenMonth,
+/// The statement of an agent, counted from 1, in a month that is open or closed.
+fn statement_in<F: ContractForm>(
+    month: &Month,
+    form: &F,
     agent: u32,
     view: &View<'_, '_>,
 ) -> Result<Statement, BookFault>
-    ensures { result ≡ stated (figures_of month.now) agent (memory_seen view.now) }
+    ensures { result ≡ stated (F.meaning form.now) (figures_in month.now) agent (memory_seen view.now) }
 {
-    view.check(month)?;
-    let figures = month.figures();
-    if agent == 0 || agent > figures.agents {
+    view.check(form, month)?;
+    if agent == 0 || agent > month.agents {
         return Err(BookFault::OutsideBook);
     }
     // Kept as places worked by number, here and in `day_total`: in lent memory the entries lie agent after agent.
     let index = (agent - 1) as usize;
-    let hours = 24 * figures.days as usize;
+    let hours = month.hours() as usize;
     let peak = month_peak(view.entries, index * hours, hours);
     Ok(statement(view.accounts[index], peak))
 }
 
-/// The total of an agent's day, both counted from 1: the twenty-four entries from its first hour on, folded.
-pub fn day_total(
+/// The provisional statement of an agent of an open month, counted from 1.
+pub fn provisional<F: ContractForm>(
     month: &OpenMonth,
+    form: &F,
+    agent: u32,
+    view: &View<'_, '_>,
+) -> Result<Statement, BookFault>
+    ensures { result ≡ stated (F.meaning form.now) (figures_of month.now) agent (memory_seen view.now) }
+{
+    statement_in(&month.month, form, agent, view)
+}
+
+/// The final statement of an agent of a closed month, counted from 1.
+pub fn final_statement<F: ContractForm>(
+    month: &ClosedMonth,
+    form: &F,
+    agent: u32,
+    view: &View<'_, '_>,
+) -> Result<Statement, BookFault>
+    ensures { result ≡ stated (F.meaning form.now) (closed_figures_of month.now) agent (memory_seen view.now) }
+{
+    statement_in(&month.month, form, agent, view)
+}
+
+/// The total of an agent's day, both counted from 1: the twenty-four entries from its first hour on, folded.
+pub fn day_total<F: ContractForm>(
+    month: &OpenMonth,
+    form: &F,
     agent: u32,
     day: u32,
     view: &View<'_, '_>,
 ) -> Result<Entry, BookFault>
-    ensures { result ≡ day_stated (figures_of month.now) agent day (memory_seen view.now) }
+    ensures { result ≡ day_stated (F.meaning form.now) (figures_of month.now) agent day (memory_seen view.now) }
 {
-    view.check(month)?;
-    let figures = month.figures();
-    if agent == 0 || agent > figures.agents || day == 0 || day > figures.days {
+    view.check(form, &month.month)?;
+    let Month { agents, days, .. } = month.month;
+    if agent == 0 || agent > agents || day == 0 || day > days {
         return Err(BookFault::OutsideBook);
     }
-    let days_before = (agent - 1) as usize * figures.days as usize + (day - 1) as usize;
+    let days_before = (agent - 1) as usize * days as usize + (day - 1) as usize;
     Ok(fold_day(view.entries, days_before))
 }

@@ -5,7 +5,6 @@ pub mod Differences
 pub mod Sharing
 pub mod Bounds
 pub mod Together
-pub mod Weekdays
 pub mod Settles
 pub mod Points
 pub mod Powers

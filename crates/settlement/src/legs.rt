@@ -150,24 +150,23 @@ impl MeasuredPosting<'_> {
         all as u32
     }
 
-    /// Writes what the posting gives each agent at its hour, with the legs of the contracts that cover it, to its place. `weekday` is the
-    /// number of the month's first.
-    // Kept as a number by the rule that any figure is answered.
+    /// Writes what the posting gives each agent at its hour, with the legs of the contracts that cover it, to its place. `first` is the
+    /// month's first weekday.
     pub fn fill_hour<F: ContractForm>(
         &self,
         form: &F,
-        weekday: u32,
+        first: Weekday,
         contracts: &[Option<Contract>],
         fresh: &mut [Entry],
     )
         requires fit { list_all (place_fits (F.meaning form.now) (24 * self.now.stamp.days) self.now.agents.now) contracts.now ≡ true }
         requires fresh_long { length fresh.old ≡ length self.now.lines.now }
-        ensures { fresh.new ≡ map (λ i. entry_of (hour_of (pool_of (F.meaning form.now) weekday self.now.agents.now contracts.now) self.now.stamp.hour self.now.price self.now.lines.now i)) (range_with_len 0 (length self.now.lines.now)) }
+        ensures { fresh.new ≡ map (λ i. entry_of (hour_of (pool_of (F.meaning form.now) (number_of first) self.now.agents.now contracts.now) self.now.stamp.hour self.now.price self.now.lines.now i)) (range_with_len 0 (length self.now.lines.now)) }
     {
         self.fill_entries(fresh);
         let pool = HourPool {
             form,
-            weekday: Weekday::at_number(weekday),
+            weekday: first,
             posting: *self,
             distributors: self.distributors_withdrawn(),
         };

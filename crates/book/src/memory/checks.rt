@@ -3,14 +3,16 @@ ghost use Rattle.std.specs.Prelude.{◌≡◌, ◌≤◌, true, [], ◌∷◌, l
 ghost use Rattle.std.specs.List.{list_all};
 ghost use Rattle.std.specs.Result.{result_err};
 ghost use Rattle.settlement.specs.Agents.{agent_fits};
+ghost use Rattle.settlement.specs.ContractFaults.{place_fits};
 ghost use Rattle.settlement.specs.Faults.{first_met};
 ghost use Rattle.book.specs.Lent.{memory_seen};
 ghost use Rattle.book.specs.Memory.{sized, stored_fits, mark_fits, energy_within, all_withdrawn, size_fault, stored_fault};
 ghost use Rattle.book.specs.Months.{hours_of};
 
 use crate::memory::View;
-use crate::months::OpenMonth;
-use settlement::{Account, Agent, BookFault, Entry};
+use crate::months::Month;
+use forms::ContractForm;
+use settlement::{Account, Admission, Agent, BookFault, Entry};
 
 /// The contract places of a book.
 const CONTRACT_PLACES: usize = 64;
@@ -71,12 +73,25 @@ impl View<'_, '_> {
             && self.entries.len() == count * hours
     }
 
-    /// Whether all stored figures are within their limits.
-    fn is_within_limits(&self) -> bool
+    /// Whether what is in each contract place may stand in a month of so many hours.
+    fn contracts_fit<F: ContractForm>(&self, form: &F, hours: u32) -> bool
+        ensures { result ≡ list_all (place_fits (F.meaning form.now) hours self.now.pool.agents.now) self.now.pool.contracts.now }
+    {
+        let admission = Admission {
+            form,
+            hours,
+            agents: self.pool.agents,
+        };
+        admission.may_all_stand(self.pool.contracts)
+    }
+
+    /// Whether all stored figures are within their limits, in a month of so many hours.
+    fn is_within_limits<F: ContractForm>(&self, form: &F, hours: u32) -> bool
         requires few { length self.now.accounts.now ≤ 64 }
-        ensures { result ≡ stored_fits (memory_seen self.now) }
+        ensures { result ≡ stored_fits (F.meaning form.now) hours (memory_seen self.now) }
     {
         agents_fit(self.pool.agents)
+            && self.contracts_fit(form, hours)
             && marks_fit(self.marks)
             && energies_fit(MOST_OF_AN_HOUR, self.entries)
             && energies_fit(MOST_OF_A_MONTH, self.accounts)
@@ -84,14 +99,13 @@ impl View<'_, '_> {
     }
 
     /// Refuses memory of another size than the month's, or with a stored figure outside its limit.
-    pub(crate) fn check(&self, month: &OpenMonth) -> Result<(), BookFault>
-        ensures { result_err result ≡ first_met (size_fault month.now.agents (hours_of month.now.days) (memory_seen self.now) ∷ stored_fault (memory_seen self.now) ∷ []) }
+    pub(crate) fn check<F: ContractForm>(&self, form: &F, month: &Month) -> Result<(), BookFault>
+        ensures { result_err result ≡ first_met (size_fault month.now.agents (hours_of month.now.days) (memory_seen self.now) ∷ stored_fault (F.meaning form.now) (hours_of month.now.days) (memory_seen self.now) ∷ []) }
     {
-        let figures = month.figures();
-        if !self.is_sized(figures.agents, figures.days) {
+        if !self.is_sized(month.agents, month.days) {
             return Err(BookFault::WrongSize);
         }
-        if !self.is_within_limits() {
+        if !self.is_within_limits(form, month.hours()) {
             return Err(BookFault::StoredOutside);
         }
         Ok(())

@@ -1,33 +1,17 @@
-//! The figures of a month.
-ghost use Rattle.std.specs.Prelude.{◌≡◌, ◌≤◌, IfOk, OnOk, length};
+//! The figures of a month, open or closed.
+ghost use Rattle.std.specs.Prelude.{◌≡◌, ◌*◌, ◌≤◌, IfOk, OnOk, length};
 ghost use Rattle.std.specs.Result.{result_err};
-ghost use Rattle.calendar.specs.Weekdays.{number_of};
 ghost use Rattle.settlement.specs.PostingFaults.{hour_fault, line_fault};
-ghost use Rattle.book.specs.Months.{figures_of, month_figures, hours_of};
+ghost use Rattle.book.specs.Months.{figures_in, figures_of, closed_figures_of, hours_of};
 
-use crate::months::{MonthFigures, OpenMonth};
-use calendar::{HourStamp, Weekday};
+use crate::months::{ClosedMonth, Month, MonthFigures, OpenMonth};
+use calendar::HourStamp;
 use settlement::{Agent, Line, LineFault, MeasuredPosting, check_hour, check_posting};
 
-impl OpenMonth {
-    /// A month with these figures: for an accepted opening alone.
-    pub(crate) fn new(agents: u32, days: u32, first: Weekday) -> OpenMonth
-        requires some_agents { 1 ≤ agents }
-        requires few_agents { agents ≤ 64 }
-        requires some_days { 1 ≤ days }
-        requires few_days { days ≤ 31 }
-        ensures { figures_of result ≡ month_figures agents days (number_of first) }
-    {
-        OpenMonth {
-            agents,
-            days,
-            first,
-        }
-    }
-
+impl Month {
     /// The figures that it was opened with.
-    pub fn figures(&self) -> MonthFigures
-        ensures { result ≡ figures_of self.now }
+    pub(crate) fn figures(&self) -> MonthFigures
+        ensures { result ≡ figures_in self.now }
     {
         MonthFigures {
             agents: self.agents,
@@ -36,17 +20,11 @@ impl OpenMonth {
         }
     }
 
-    /// Gives the month up, and its figures back.
-    pub fn retire(self) -> MonthFigures
-        ensures { result ≡ figures_of self }
+    /// How many hours it has.
+    pub(crate) fn hours(&self) -> u32
+        ensures { result ≡ hours_of self.now.days }
     {
-        let figures = self.figures();
-        let OpenMonth {
-            agents: _,
-            days: _,
-            first: _,
-        } = self;
-        figures
+        24 * self.days
     }
 
     /// The stamp of one of its hours, or a refusal where the hour lies outside.
@@ -72,5 +50,47 @@ impl OpenMonth {
         ensures long { OnOk result (length lines.now ≡ self.now.agents) }
     {
         check_posting(self.days, hour, price, lines, agents)
+    }
+}
+
+impl OpenMonth {
+    /// The figures that it was opened with.
+    pub fn figures(&self) -> MonthFigures
+        ensures { result ≡ figures_of self.now }
+    {
+        self.month.figures()
+    }
+
+    /// Gives the month up, and its figures back.
+    pub fn retire(self) -> MonthFigures
+        ensures { result ≡ figures_of self }
+    {
+        let OpenMonth { month: retired } = self;
+        retired.figures()
+    }
+
+    /// The same month, closed: for an accepted closing alone.
+    pub(crate) fn closed(self) -> ClosedMonth
+        ensures { closed_figures_of result ≡ figures_of self }
+    {
+        let OpenMonth { month } = self;
+        ClosedMonth { month }
+    }
+}
+
+impl ClosedMonth {
+    /// The figures that it was opened with.
+    pub fn figures(&self) -> MonthFigures
+        ensures { result ≡ closed_figures_of self.now }
+    {
+        self.month.figures()
+    }
+
+    /// Gives the month up, and its figures back.
+    pub fn retire(self) -> MonthFigures
+        ensures { result ≡ closed_figures_of self }
+    {
+        let ClosedMonth { month: retired } = self;
+        retired.figures()
     }
 }

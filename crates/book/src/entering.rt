@@ -1,0 +1,134 @@
+//! Entering and cancelling a contract.
+ghost use Rattle.std.specs.Prelude.{◌≡◌, ◌-◌, ◌<◌, ◌≤◌, not, length, IfOk};
+ghost use Rattle.std.specs.Result.{result_err};
+ghost use Rattle.settlement.specs.ContractFaults.{number_known, covered_fault};
+ghost use Rattle.settlement.specs.Faults.{met_if};
+ghost use Rattle.book.specs.Calls.{outcome_of, enter_fault, entered, cancel_fault, cancelled};
+ghost use Rattle.book.specs.Lent.{memory_seen, memory_with};
+ghost use Rattle.book.specs.Memory.{is_posted};
+ghost use Rattle.book.specs.Months.{figures_in, figures_of};
+
+use crate::memory::{Ledger, Pool, View};
+use crate::months::{Month, OpenMonth};
+use crate::posting::FREE;
+use forms::{Contract, ContractForm};
+use settlement::{Admission, Agent, BookFault};
+
+/// The contract numbers of a book, from 1.
+const CONTRACT_NUMBERS: u32 = 64;
+
+/// The contract place of a number, or a refusal of one outside 1 to 64.
+fn place_of(number: u32) -> Result<usize, BookFault>
+    ensures fault { result_err result ≡ met_if (not (number_known number)) BookFault.ContractNumber }
+    ensures place { IfOk result (λ place. place ≡ number - 1) }
+    ensures within { IfOk result (λ place. place < 64) }
+{
+    if number < 1 || number > CONTRACT_NUMBERS {
+        return Err(BookFault::ContractNumber);
+    }
+    Ok(number as usize - 1)
+}
+
+/// Refuses a contract that covers an hour at which a posting stands.
+fn check_covered(contract: Contract, marks: &[u8]) -> Result<(), BookFault>
+    requires within { contract.last < length marks.now }
+    requires few { length marks.now ≤ 744 }
+    ensures { result_err result ≡ covered_fault (is_posted marks.now) contract }
+{
+    for hour in contract.first..contract.last + 1 {
+        if marks[hour as usize] != FREE {
+            return Err(BookFault::CoveredHour(hour));
+        }
+    }
+    Ok(())
+}
+
+impl View<'_, '_> {
+    /// The place of a contract that may be entered under a number: the number is free, and no hour that it covers stands.
+    fn check_entry<F: ContractForm>(
+        &self,
+        form: &F,
+        month: &Month,
+        number: u32,
+        contract: Contract,
+    ) -> Result<usize, BookFault>
+        ensures fault { result_err result ≡ enter_fault (F.meaning form.now) (figures_in month.now) number contract (memory_seen self.now) }
+        ensures place { IfOk result (λ place. place ≡ number - 1) }
+        ensures within { IfOk result (λ place. place < length self.now.pool.contracts.now) }
+    {
+        self.check(form, month)?;
+        let place = place_of(number)?;
+        if self.pool.contracts[place].is_some() {
+            return Err(BookFault::ContractNumber);
+        }
+        let admission = Admission {
+            form,
+            hours: month.hours(),
+            agents: self.pool.agents,
+        };
+        if !admission.may_stand(contract) {
+            return Err(BookFault::ContractTerms);
+        }
+        check_covered(contract, self.marks)?;
+        Ok(place)
+    }
+
+    /// The place of the contract that may be cancelled under a number: one stands there, and no hour that it covers stands.
+    fn check_cancelling<F: ContractForm>(
+        &self,
+        form: &F,
+        month: &Month,
+        number: u32,
+    ) -> Result<usize, BookFault>
+        ensures fault { result_err result ≡ cancel_fault (F.meaning form.now) (figures_in month.now) number (memory_seen self.now) }
+        ensures place { IfOk result (λ place. place ≡ number - 1) }
+        ensures within { IfOk result (λ place. place < length self.now.pool.contracts.now) }
+    {
+        self.check(form, month)?;
+        let place = place_of(number)?;
+        let Some(contract) = self.pool.contracts[place] else {
+            return Err(BookFault::ContractNumber);
+        };
+        check_covered(contract, self.marks)?;
+        Ok(place)
+    }
+}
+
+/// Enters a contract under a number, 1 to 64, that is free. No hour that it covers may stand.
+pub fn enter<F: ContractForm>(
+    month: &OpenMonth,
+    form: &F,
+    number: u32,
+    contract: Contract,
+    agents: &[Agent],
+    contracts: &mut [Option<Contract>],
+    ledger: &Ledger<'_>,
+) -> Result<(), BookFault>
+    ensures { outcome_of result (memory_with agents.now contracts.new ledger.now) ≡ entered (F.meaning form.now) (figures_of month.now) number contract (memory_with agents.now contracts.old ledger.now) }
+{
+    let pool = Pool { agents, contracts };
+    let place = ledger
+        .view(&pool)
+        .check_entry(form, &month.month, number, contract)?;
+    contracts[place] = Some(contract);
+    Ok(())
+}
+
+/// Cancels the contract under a number. No hour that it covers may stand.
+pub fn cancel<F: ContractForm>(
+    month: &OpenMonth,
+    form: &F,
+    number: u32,
+    agents: &[Agent],
+    contracts: &mut [Option<Contract>],
+    ledger: &Ledger<'_>,
+) -> Result<(), BookFault>
+    ensures { outcome_of result (memory_with agents.now contracts.new ledger.now) ≡ cancelled (F.meaning form.now) (figures_of month.now) number (memory_with agents.now contracts.old ledger.now) }
+{
+    let pool = Pool { agents, contracts };
+    let place = ledger
+        .view(&pool)
+        .check_cancelling(form, &month.month, number)?;
+    contracts[place] = None;
+    Ok(())
+}

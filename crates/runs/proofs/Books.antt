@@ -1,0 +1,232 @@
+-- A book that was opened and has heard any list of requests: its memory keeps its limits, and it was run as the rules say. Assumes nothing.
+use Rattle.std.proofs.Common.{◌≡◌, ℕ, ◌*◌, ◌<◌, ◌≤◌, Bool, true, false, cond, not, ◌||◌, ltb, leb, List, [], ◌∷◌, map, length, replicate, nat_abs, None, Option, sym, refl, ap, ◌∙◌, subst, arith}
+use mathlib.Core.List.{map-map}
+use Rattle.std.specs.List.{range_with_len, list_all}
+use Rattle.std.proofs.lemmas.List.FromFn.{get_or-map-range_with_len}
+use Rattle.std.proofs.lemmas.Bool.{and_parts, or_parts, not-false, leb-true, ltb-false, eqb-true}
+use Rattle.forms.specs.Meaning.{Meaning, Keeps}
+use Rattle.settlement.specs.declared.faults.BookFault.{BookFault}
+use Rattle.settlement.specs.declared.faults.BookFault.TheVariants.{WrongSize, OutsideBook}
+use Rattle.settlement.specs.Agents.{agent_fits}
+use Rattle.settlement.specs.Faults.{met_if, first_met}
+use Rattle.settlement.specs.Holdings.{no_holding}
+use Rattle.settlement.specs.Sums.{sum_to_ℤ}
+use Rattle.settlement.proofs.Measured.{unmet}
+use Rattle.settlement.proofs.Sums.{sum_to_ℤ_same, map_counting_same}
+use Rattle.standing.specs.Law.{Book, Ran}
+use Rattle.standing.specs.Requests.{Opening, count_in, hours_in, Request, without_contracts, told_without}
+use Rattle.standing.specs.Standing.{Standing, nothing_stands, after, open'}
+use Rattle.standing.specs.Worked.{worked, balance_of, Reply, replies_from}
+use Rattle.standing.proofs.Bounds.{balance_abs}
+use Rattle.standing.proofs.Checked.{NoneMet, first_met_none}
+use Rattle.standing.proofs.Sound.{Opened, Sound}
+use Rattle.standing.proofs.Soundness.{sound_none, sound_after}
+use Rattle.book.specs.declared.months.MonthFigures.{MonthFigures}
+use Rattle.book.specs.declared.statements.Statement.{Statement}
+use Rattle.book.specs.Calls.{open_fault, emptied, statement_in}
+use Rattle.book.specs.Memory.{Memory, sized, stored_fits, size_fault, memory_of}
+use Rattle.book.specs.Months.{hours_of, size_known, month_figures}
+use Rattle.runs.specs.Reading.{opening_of, reply_of, worked_in}
+use Rattle.runs.specs.Runs.{Kept, kept_of, answers_to, kept_after, no_statement, balance_at, statements_in}
+use Rattle.runs.proofs.Fits.{held_fits}
+use Rattle.runs.proofs.Holds.{figures_of_opening, Holds}
+use Rattle.runs.proofs.Keeps.{holds_emptied}
+use Rattle.runs.proofs.Run.{run_told, run_holds, run_told_without, run_holds_without}
+use Rattle.runs.proofs.Statements.{statements_step}
+
+-- what a run hears of a list: all of it, or all but what is about contracts
+abbrev pub heard_by : Bool → List Request → List Request
+heard_by contracts requests = cond contracts requests (without_contracts requests)
+
+-- what it was told
+abbrev pub told_by : Bool → List Request → List Reply → List Reply
+told_by contracts requests told = cond contracts told (told_without requests told)
+
+-- ---- the opening
+
+module _ (f : MonthFigures) (m : Memory) (opens : open_fault f m ≡ None) where
+  -- the book that was opened
+  abbrev pub opening : Opening
+  opening = opening_of f.days f.weekday m.agents
+
+  -- the faults of an opening
+  abbrev rows : List (Option BookFault)
+  rows = met_if (not (size_known f)) OutsideBook ∷ size_fault f.agents (hours_of f.days) m ∷ met_if (ltb 6 f.weekday || not (list_all agent_fits m.agents)) OutsideBook ∷ []
+
+  -- none was met
+  none_met : NoneMet rows
+  none_met = first_met_none rows opens
+
+  pub opens_sized : sized f.agents (hours_of f.days) m ≡ true
+  opens_sized = not-false _ (unmet _ _ (sym none_met.1.0))
+
+  pub agents_long : count_in opening ≡ f.agents
+  agents_long = eqb-true _ _ (and_parts _ _ opens_sized).0
+
+  pub is_opened : Opened opening
+  is_opened =
+      let known = not-false _ (unmet _ _ (sym none_met.0)) in
+      let few = and_parts (leb 1 f.agents) _ known in
+      let most = and_parts (leb f.agents 64) _ few.1 in
+      let days = and_parts (leb 1 f.days) _ most.1 in
+      let last = or_parts (ltb 6 f.weekday) (not (list_all agent_fits m.agents)) (unmet _ _ (sym none_met.1.1.0)) in
+      record {
+        some_agents = omega (arith, agents_long, leb-true 1 f.agents few.0);
+        few_agents = omega (arith, agents_long, leb-true f.agents 64 most.0);
+        some_days = leb-true 1 f.days days.0;
+        few_days = leb-true f.days 31 days.1;
+        weekday = ltb-false 6 f.weekday last.0;
+        agents = not-false _ last.1;
+      }
+
+  pub same_figures : figures_of_opening opening ≡ f
+  same_figures = ap (λ n. month_figures n f.days f.weekday) agents_long
+
+  -- memory of the size of a book of these figures, part by part
+  sizes : (length m.accounts ≡ f.agents) × (length m.contracts ≡ 64) × (length m.marks ≡ hours_of f.days) × (length m.entries ≡ f.agents * hours_of f.days)
+  sizes =
+      let a = and_parts _ _ opens_sized in
+      let b = and_parts _ _ a.1 in
+      let c = and_parts _ _ b.1 in
+      let d = and_parts _ _ c.1 in
+      (eqb-true _ _ b.0, eqb-true _ _ c.0, eqb-true _ _ d.0, eqb-true _ _ d.1)
+
+  pub accounts_sized : length m.accounts ≡ f.agents
+  accounts_sized = sizes.0
+
+  pub contracts_sized : length m.contracts ≡ 64
+  contracts_sized = sizes.1
+
+  pub marks_sized : length m.marks ≡ hours_of f.days
+  marks_sized = sizes.2
+
+  pub entries_sized : length m.entries ≡ f.agents * hours_of f.days
+  entries_sized = sizes.3
+
+  -- memory of the same agents and the same size can be opened as well, and is emptied to the same
+  pub opens_same : (m' : Memory) → m'.agents ≡ m.agents → sized f.agents (hours_of f.days) m' ≡ true → open_fault f m' ≡ None
+  opens_same m' agents size =
+      (λ t. first_met (met_if (not (size_known f)) OutsideBook ∷ met_if (not ((size ∙ sym opens_sized) t)) WrongSize ∷ met_if (ltb 6 f.weekday || not (list_all agent_fits (agents t))) OutsideBook ∷ []))
+      ∙ opens
+
+module _ (f : MonthFigures) (m m' : Memory) (opens : open_fault f m ≡ None) (opens' : open_fault f m' ≡ None) (agents : m'.agents ≡ m.agents) where
+  pub emptied_same : emptied m' ≡ emptied m
+  emptied_same =
+      let accounts = accounts_sized f m' opens' ∙ sym (accounts_sized f m opens) in
+      let contracts = contracts_sized f m' opens' ∙ sym (contracts_sized f m opens) in
+      let marks = marks_sized f m' opens' ∙ sym (marks_sized f m opens) in
+      let entries = entries_sized f m' opens' ∙ sym (entries_sized f m opens) in
+      λ t. memory_of (agents t) (replicate (accounts t) no_holding) (replicate (contracts t) None) (replicate (marks t) 0) (replicate (entries t) no_holding)
+
+-- ---- the run
+
+module _ (form : Meaning) (keeps : Keeps form) (f : MonthFigures) (m : Memory) (opens : open_fault f m ≡ None) where
+  -- what it was opened with
+  abbrev o : Opening
+  o = opening f m opens
+
+  -- the book as it was opened
+  abbrev pub start : Kept
+  start = kept_of open' (emptied m)
+
+  -- it holds that nothing stands
+  start_holds : Holds form o nothing_stands start
+  start_holds =
+      holds_emptied form o m refl (accounts_sized f m opens ∙ sym (agents_long f m opens)) (contracts_sized f m opens) (marks_sized f m opens)
+      (entries_sized f m opens ∙ ap (λ n. n * hours_in o) (sym (agents_long f m opens)))
+
+  module _ (contracts : Bool) (requests : List Request) where
+    -- what stands at the end
+    abbrev pub standing : Standing
+    standing = after form o (heard_by contracts requests)
+
+    -- the book as it is kept then
+    abbrev pub kept : Kept
+    kept = kept_after contracts form f requests start
+
+    -- what stands is sound
+    standing_sound : Sound form o standing
+    standing_sound = sound_after form o (heard_by contracts requests)
+
+    -- the book holds it, whether it heard contracts or not
+    holds_by : (by : Bool) → Holds form o (after form o (heard_by by requests)) (kept_after by form (figures_of_opening o) requests start)
+    holds_by true = run_holds form keeps o (is_opened f m opens) nothing_stands (sound_none form o) start start_holds requests
+    holds_by false = run_holds_without form keeps o (is_opened f m opens) nothing_stands (sound_none form o) start start_holds requests
+
+    -- so it does with the figures that it was opened with
+    pub kept_holds : Holds form o standing kept
+    kept_holds = subst (λ g. Holds form o standing (kept_after contracts form g requests start)) (same_figures f m opens) (holds_by contracts)
+
+    -- so its memory has its size and keeps every limit
+    kept_fits : (sized (count_in o) (hours_in o) kept.memory ≡ true) × (stored_fits form (hours_in o) kept.memory ≡ true)
+    kept_fits = held_fits form keeps o (is_opened f m opens) standing standing_sound kept.memory kept_holds.memory
+
+    -- its size
+    pub kept_sized : sized f.agents (hours_of f.days) kept.memory ≡ true
+    kept_sized = ap (λ n. sized n (hours_of f.days) kept.memory) (sym (agents_long f m opens)) ∙ kept_fits.0
+
+    -- its limits
+    pub kept_stored : stored_fits form (hours_of f.days) kept.memory ≡ true
+    kept_stored = kept_fits.1
+
+    -- its memory can be opened anew
+    pub kept_opens : open_fault f kept.memory ≡ None
+    kept_opens = opens_same f m opens kept.memory kept_holds.memory.agents kept_sized
+
+    -- and is emptied to the same
+    pub kept_emptied : emptied kept.memory ≡ emptied m
+    kept_emptied = emptied_same f m kept.memory opens kept_opens kept_holds.memory.agents
+
+    -- ---- what it was told, its statements and its balances
+
+    -- what it was told is worked from what stands, whether it heard contracts or not
+    told_by_lem : (by : Bool) → told_by by requests (map reply_of (answers_to by form (figures_of_opening o) requests start)) ≡ replies_from form o nothing_stands (heard_by by requests)
+    told_by_lem true = run_told form keeps o (is_opened f m opens) nothing_stands (sound_none form o) start start_holds requests
+    told_by_lem false = run_told_without form keeps o (is_opened f m opens) nothing_stands (sound_none form o) start start_holds requests
+
+    -- so it is with the figures that it was opened with
+    pub kept_told : told_by contracts requests (map reply_of (answers_to contracts form f requests start)) ≡ replies_from form o nothing_stands (heard_by contracts requests)
+    kept_told = ap (λ g. told_by contracts requests (map reply_of (answers_to contracts form g requests start))) (sym (same_figures f m opens)) ∙ told_by_lem contracts
+
+    -- the statements at the end
+    abbrev pub statements : List Statement
+    statements = statements_in f kept.memory
+
+    -- each is the one worked from what stands
+    worked_so : (i : ℕ) → i < count_in o → worked_in (statement_in (hours_of f.days) i kept.memory) ≡ worked form o standing i
+    worked_so i agent = statements_step form keeps o (is_opened f m opens) standing standing_sound kept.memory kept_holds.memory i agent
+
+    -- and so is its balance
+    balance_so : (i : ℕ) → i < count_in o → balance_at statements i ≡ balance_of form o standing i
+    balance_so i agent =
+        ap (λ (st : Statement). st.balance) (get_or-map-range_with_len (λ k. statement_in (hours_of f.days) k kept.memory) 0 f.agents i i no_statement (omega (arith, agents_long f m opens)) (omega arith))
+        ∙ ap (λ w. w.balance) (worked_so i agent)
+
+    -- which is small
+    pub kept_small : (i : ℕ) → i < f.agents → nat_abs (balance_at statements i) ≤ 30000000000000000
+    kept_small i within =
+        let agent : i < count_in o = omega (arith, agents_long f m opens) in
+        omega (arith, ap nat_abs (balance_so i agent), balance_abs form keeps o (is_opened f m opens) standing standing_sound i agent)
+
+    -- all statements
+    statements_so : map worked_in statements ≡ map (worked form o standing) (range_with_len 0 (count_in o))
+    statements_so =
+        ap (λ n. map worked_in (map (λ i. statement_in (hours_of f.days) i kept.memory) (range_with_len 0 n))) (sym (agents_long f m opens))
+        ∙ map-map _ _ (range_with_len 0 (count_in o))
+        ∙ map_counting_same (count_in o) _ _ worked_so
+
+    -- the book as it was run
+    abbrev pub book : Book
+    book = record {
+      told = told_by contracts requests (map reply_of (answers_to contracts form f requests start));
+      statements = map worked_in statements;
+      balances = sum_to_ℤ f.agents (balance_at statements);
+    }
+
+    -- was run as the rules say
+    pub kept_ran : Ran form o (heard_by contracts requests) book
+    kept_ran = record {
+      answers = kept_told;
+      stands = statements_so;
+      together = ap (λ n. sum_to_ℤ n (balance_at statements)) (sym (agents_long f m opens)) ∙ sum_to_ℤ_same (count_in o) _ _ balance_so;
+    }

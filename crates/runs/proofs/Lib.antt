@@ -1,0 +1,10 @@
+pub mod Outcomes
+pub mod Holds
+pub mod Columns
+pub mod Accounts
+pub mod Keeps
+pub mod Fits
+pub mod Statements
+pub mod Steps
+pub mod Run
+pub mod Books
