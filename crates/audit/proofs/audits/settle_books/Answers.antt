@@ -10,7 +10,7 @@ use Rattle.runs.specs.Runs.{Kept, answers_to, all_done, kept_after, balance_at, 
 use Rattle.runs.specs.Told.{stands_told}
 use Rattle.audit.specs.Audits.{asked_again}
 use Rattle.runs.proofs.Books.{kept_holds}
-use Rattle.audit.specs.Compared.{strangers_in, strangers_same}
+use Rattle.audit.specs.Compared.{Compared}
 use Rattle.audit.specs.Only.{only_told, residue_in, StandsMeasured}
 use Rattle.audit.specs.Settlings.{begun, ended}
 use Rattle.audit.proofs.Audited.{done_told, book_same, opens_after, begun_after, told_measured, residue_is, only_is, law_holds}
@@ -149,10 +149,4 @@ returns-clause-compared g c =
     let places =
     c.copy_from_slice.ensures.after ∙ ap (λ (memory : Memory). memory.contracts) c.settle_calls-first.ensures.came.memory
     ∙ (kept_holds form keeps f m opens true requests).memory.contracts in
-    record {
-      heard = c.count_heard.ensures;
-      alike = c.count_alike.ensures;
-      strangers = c.count_strangers.ensures ∙ ap (strangers_in f.agents) places;
-      strangers_same = c.count_strangers_same.ensures ∙ ap (λ stood. strangers_same f.agents stood c.settle_calls-first.new.statements c.settle_calls-second.new.statements) places;
-      same = c.count_same.ensures;
-    }
+    subst (λ stood. Compared f.agents c.args.calls.now c.settle_calls-first.new.answers c.settle_calls-second.new.answers stood c.settle_calls-first.new.statements c.settle_calls-second.new.statements c.settle_standing-third.new.statements c.compare.result) places c.compare.ensures
