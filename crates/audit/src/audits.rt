@@ -13,7 +13,7 @@ ghost use Rattle.audit.specs.Settlings.{ended};
 
 use crate::comparisons::{Comparison, compare};
 use crate::residues::standing_residue;
-use crate::settling::{settle_calls, settle_standing};
+use crate::settling::{Case, settle_calls, settle_standing};
 use book::{Agent, BookFault, Ledger, MonthFigures, Pool, Statement};
 use forms::{Contract, ContractForm};
 use runs::{Answer, Call};
@@ -59,10 +59,7 @@ impl Findings<'_> {
 
 /// Settles the three books of a month that can be opened.
 fn settle_books<F: ContractForm>(
-    figures: MonthFigures,
-    form: &F,
-    calls: &[Call],
-    agents: &[Agent],
+    case: &Case<'_, F>,
     contracts: &mut [Option<Contract>],
     ledger: &mut Ledger<'_>,
     answers: &mut [Answer],
@@ -71,46 +68,48 @@ fn settle_books<F: ContractForm>(
     statements_without: &mut [Statement],
     statements_again: &mut [Statement],
 ) -> Report
-    requires opens { open_fault figures (memory_with agents.now contracts.old ledger.old) ≡ None }
-    requires answers_long { length answers.old ≡ length calls.now }
-    requires answers_without_long { length answers_without.old ≡ length calls.now }
-    requires statements_long { length statements.old ≡ length agents.now }
-    requires statements_without_long { length statements_without.old ≡ length agents.now }
-    requires statements_again_long { length statements_again.old ≡ length agents.now }
+    requires opens { open_fault case.now.figures (memory_with case.now.agents.now contracts.old ledger.old) ≡ None }
+    requires answers_long { length answers.old ≡ length case.now.calls.now }
+    requires answers_without_long { length answers_without.old ≡ length case.now.calls.now }
+    requires statements_long { length statements.old ≡ length case.now.agents.now }
+    requires statements_without_long { length statements_without.old ≡ length case.now.agents.now }
+    requires statements_again_long { length statements_again.old ≡ length case.now.agents.now }
     ensures lent { SameLoan ledger.old ledger.new }
-    ensures memory { memory_with agents.now contracts.new ledger.new ≡ (ended true (F.meaning form.now) figures (asked_again (F.meaning form.now) figures agents.now (map request_of calls.now)) (memory_with agents.now contracts.old ledger.old)).memory }
-    ensures settled { Settled (F.meaning form.now) (opening_of figures.days figures.weekday agents.now) (map request_of calls.now) (book_of (map reply_of answers.new) statements.new result.balances) (book_of (told_without (map request_of calls.now) (map reply_of answers_without.new)) statements_without.new result.balances_without) (book_of (told_again (F.meaning form.now) figures (map request_of calls.now) (memory_with agents.now contracts.old ledger.old)) statements_again.new result.balances_again) result.residue }
-    ensures compared { Compared figures.agents calls.now answers.new answers_without.new (places_after (F.meaning form.now) figures agents.now (map request_of calls.now)) statements.new statements_without.new statements_again.new result.comparison }
-    ensures repeated { result.repeated ≡ list_all is_done (told_again (F.meaning form.now) figures (map request_of calls.now) (memory_with agents.now contracts.old ledger.old)) }
+    ensures memory { memory_with case.now.agents.now contracts.new ledger.new ≡ (ended true (F.meaning case.now.form.now) case.now.figures (asked_again (F.meaning case.now.form.now) case.now.figures case.now.agents.now (map request_of case.now.calls.now)) (memory_with case.now.agents.now contracts.old ledger.old)).memory }
+    ensures settled { Settled (F.meaning case.now.form.now) (opening_of case.now.figures.days case.now.figures.weekday case.now.agents.now) (map request_of case.now.calls.now) (book_of (map reply_of answers.new) statements.new result.balances) (book_of (told_without (map request_of case.now.calls.now) (map reply_of answers_without.new)) statements_without.new result.balances_without) (book_of (told_again (F.meaning case.now.form.now) case.now.figures (map request_of case.now.calls.now) (memory_with case.now.agents.now contracts.old ledger.old)) statements_again.new result.balances_again) result.residue }
+    ensures compared { Compared case.now.figures.agents case.now.calls.now answers.new answers_without.new (places_after (F.meaning case.now.form.now) case.now.figures case.now.agents.now (map request_of case.now.calls.now)) statements.new statements_without.new statements_again.new result.comparison }
+    ensures repeated { result.repeated ≡ list_all is_done (told_again (F.meaning case.now.form.now) case.now.figures (map request_of case.now.calls.now) (memory_with case.now.agents.now contracts.old ledger.old)) }
 {
-    let first = settle_calls(
-        true, figures, form, calls, agents, contracts, ledger, answers, statements,
-    );
-    let residue = standing_residue(24 * figures.days, calls, answers);
+    let first = settle_calls(true, case, contracts, ledger, answers, statements);
+    let residue = standing_residue(24 * case.figures.days, case.calls, answers);
     // Kept as an array: the library allocates nothing.
     let mut places = [None; 64];
     places.copy_from_slice(contracts);
     let second = settle_calls(
         false,
-        figures,
-        form,
-        calls,
-        agents,
+        case,
         contracts,
         ledger,
         answers_without,
         statements_without,
     );
     let third = settle_standing(
-        figures,
-        form,
-        calls,
+        case,
         answers,
         &places,
         first.closed,
-        agents,
         contracts,
         ledger,
+        statements_again,
+    );
+    let comparison = compare(
+        case.calls,
+        answers,
+        answers_without,
+        case.figures.agents,
+        &places,
+        statements,
+        statements_without,
         statements_again,
     );
     Report {
@@ -119,16 +118,7 @@ fn settle_books<F: ContractForm>(
         balances_again: third.settlement.balances,
         residue,
         repeated: third.done,
-        comparison: compare(
-            calls,
-            answers,
-            answers_without,
-            figures.agents,
-            &places,
-            statements,
-            statements_without,
-            statements_again,
-        ),
+        comparison,
     }
 }
 
@@ -158,11 +148,14 @@ pub fn audit<F: ContractForm>(
     }
     let pool = Pool { agents, contracts };
     ledger.view(&pool).check_opening(figures)?;
-    Ok(settle_books(
+    let case = Case {
         figures,
         form,
-        calls,
         agents,
+        calls,
+    };
+    Ok(settle_books(
+        &case,
         contracts,
         ledger,
         findings.answers,
