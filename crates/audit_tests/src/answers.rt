@@ -48,7 +48,8 @@ fn try_cases(rt: &impl Abort, heap: Global, cases: &[Case<'_>]) -> Result<(), Fa
         all_said(heap, &found.desk.answers_without)?.as_slice(),
         second.as_slice()
     );
-    assert_eq!(rt; found.report.alike, found.report.heard);
+    let comparison = found.report.comparison;
+    assert_eq!(rt; comparison.alike, comparison.heard);
     Ok(())
 }
 

@@ -1,7 +1,7 @@
 //! Months worked by hand, statement by statement.
 use crate::desk::{Desk, Said, Step, all_said, calls_of, monday};
 use crate::pool::{BLOCK, PAIR, PLAIN, TRADE, audited};
-use audit::Report;
+use audit::{Comparison, Report};
 use book::Statement;
 use forms::Contract;
 use std::test::Fail;
@@ -37,11 +37,13 @@ const WORKED: Report = Report {
     balances_again: -23_640,
     residue: 23_640,
     repeated: true,
-    heard: 2,
-    alike: 2,
-    strangers: 0,
-    strangers_same: 0,
-    same: 2,
+    comparison: Comparison {
+        heard: 2,
+        alike: 2,
+        strangers: 0,
+        strangers_same: 0,
+        same: 2,
+    },
 };
 
 /// The statements of the worked month.

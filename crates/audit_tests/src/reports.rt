@@ -1,7 +1,7 @@
 //! What audits report, counted and added up by hand.
 use crate::desk::Step;
 use crate::pool::{BLOCK, OBLIGATED, QUIET, RESOLD, SHARE, TRADE, audited};
-use audit::Report;
+use audit::{Comparison, Report};
 use forms::Contract;
 use std::alloc::Global;
 use std::process::Abort;
@@ -17,11 +17,13 @@ fn report(residue: i64, heard: usize, strangers: usize) -> Report {
         balances_again: balances,
         residue,
         repeated: true,
-        heard,
-        alike: heard,
-        strangers,
-        strangers_same: strangers,
-        same: 4,
+        comparison: Comparison {
+            heard,
+            alike: heard,
+            strangers,
+            strangers_same: strangers,
+            same: 4,
+        },
     }
 }
 

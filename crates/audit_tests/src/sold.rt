@@ -2,7 +2,7 @@
 use crate::audit_profiles;
 use crate::desk::{Desk, Loan, Outcome, Step, calls_of, monday};
 use crate::pool::{PAIR, PLAIN};
-use audit::{Call, Report};
+use audit::{Call, Comparison, Report};
 use forms::{Contract, Delivery};
 use std::test::Fail;
 
@@ -54,11 +54,13 @@ const SOLD: Report = Report {
     balances_again: -47_280,
     residue: 47_280,
     repeated: true,
-    heard: 2,
-    alike: 2,
-    strangers: 0,
-    strangers_same: 0,
-    same: 2,
+    comparison: Comparison {
+        heard: 2,
+        alike: 2,
+        strangers: 0,
+        strangers_same: 0,
+        same: 2,
+    },
 };
 
 // The profiles bring 25,500 and 6,000 points in hour 8, and 12,500 and 3,000 in hour 17.
