@@ -236,7 +236,83 @@ def settle(journal, say):
             say(line)
 
 
-COMMANDS = {"settle": settle}
+# ---- Auditing
+
+
+def audit(journal, say):
+    """Settles the last book opened three times, and says what is alike."""
+    opening, asked = None, []
+    for call in calls(journal):
+        if call.form == "open":
+            opening, asked = call, []
+        else:
+            asked.append(call)
+    if opening is None:
+        say("Audit: none, since no book was opened.")
+        return
+    book, answer = open_book(opening)
+    if book is None:
+        say(f"Audit: none, since the last opening was {answer}.")
+        return
+    for line in findings(book, asked):
+        say(line)
+
+
+def answers(book, asked, heard=lambda call: True):
+    """The book's answers to the calls that are no contract calls, of those that it hears."""
+    told = []
+    for call in filter(heard, asked):
+        answer, _ = hear(book, call)
+        if call.form == "statements":
+            # It asks for the statement of each agent, one by one.
+            told += [answer] * len(book.agents)
+        elif not about_contracts(call):
+            told.append(answer)
+    return told
+
+
+def about_contracts(call):
+    return call.form in ("contract", "cancel")
+
+
+def settle_standing(book):
+    """A book opened alike that hears what stands in this one, and nothing else."""
+    again = book.alike()
+    for number, contract in book.contracts.items():
+        again.enter(number, contract)
+    for hour, posting in sorted(book.standing.items()):
+        again.post(hour, posting)
+    if book.closed:
+        again.close()
+    return again
+
+
+def findings(first, asked):
+    """What an audit says of a book that has just been opened."""
+    second = first.alike()
+    one = answers(first, asked)
+    other = answers(second, asked, lambda call: not about_contracts(call))
+    books = first, second, settle_standing(first)
+    alike = sum(pair[0] == pair[1] for pair in zip(one, other, strict=True))
+    yield f"Calls that the first and the second book both heard: {len(one)}."
+    yield f"Of these calls, answered alike: {alike}."
+    for name, book in zip(("first", "second", "third"), books):
+        yield f"Sum of balances in the {name} book: {dollars(together(book.statements()))}."
+    yield f"Residue of the standing hours: {dollars(first.residue())}."
+    statements = list(zip(*(book.statements() for book in books)))
+    parties = {party for contract in first.contracts.values() for party in (contract.seller, contract.buyer)}
+    strangers = [of_three for agent, of_three in enumerate(statements, start=1) if agent not in parties]
+    same = sum(of_three[0] == of_three[1] for of_three in strangers)
+    again = sum(of_three[0] == of_three[2] for of_three in statements)
+    yield f"Agents that are party to no standing contract: {len(strangers)}."
+    yield f"Of these agents, with the same statement in the first and the second book: {same}."
+    yield f"Agents with the same statement in the first and the third book: {again}."
+    if (alike, same, again) != (len(one), len(strangers), len(statements)):
+        raise AssertionError("by the rules nothing can differ, and the model's own books do")
+    yield "Agents and lines that differ: none."
+
+
+COMMANDS = {"settle": settle, "audit": audit}
 
 
 def run(command, text):
