@@ -1,5 +1,5 @@
-"""Journals made by hand: every fault at each kind of place, both sides of every limit, figures worked by hand,
-and lines of the wrong form. Each has beginnings of lines that must be printed in this order."""
+"""Journals made by hand on opening, posting and withdrawing: every fault at each kind of place, both sides of every limit,
+figures worked by hand, and lines of the wrong form. Each has beginnings of lines that must be printed in this order."""
 
 OPENED = "Line 1, open: accepted."
 HUGE = 4_294_967_295
@@ -501,10 +501,37 @@ NO_CALL = [
     "Statements",
     "statementss",
     "line class 1 cause 0 injected 0 withdrawn 0 gross 0 factor 100000 cost 0",
-    "contract 1 kind 1 seller 1 buyer 2 place market first 0 last 23 price 1 peak 1 medium 1 base 1 margin 0",
+    "contract",
+    "contract x",
+    "contract kind 1 seller 1 buyer 2 place market first 0 last 23 price 1 peak 1 medium 1 base 1 margin 0",
+    "contract 1",
+    "contract 1 kind block seller 1 buyer 2 place market first 0 last 23 price 1 peak 1 medium 1 base 1 margin 0",
+    "contract 1 seller 1 kind 1 buyer 2 place market first 0 last 23 price 1 peak 1 medium 1 base 1 margin 0",
+    "contract 1 kind 1 buyer 2 seller 1 place market first 0 last 23 price 1 peak 1 medium 1 base 1 margin 0",
+    "contract 1 kind 1 seller 1 buyer 2 place first 0 last 23 price 1 peak 1 medium 1 base 1 margin 0",
+    "contract 1 kind 1 seller 1 buyer 2 place market last 23 first 0 price 1 peak 1 medium 1 base 1 margin 0",
+    "contract 1 kind 1 seller 1 buyer 2 place market first 0 last 23 price 1 base 1 medium 1 peak 1 margin 0",
+    "contract 1 kind 1 seller 1 buyer 2 place market first 0 last 23 price 1 peak 1 medium 1 base 1",
+    "contract 1 kind 1 seller 1 buyer 2 place market first 0 last 23 price 1 peak 1 medium 1 base 1 margin",
+    "contract 1 kind 1 seller 1 buyer 2 place market first 0 last 23 price 1 peak 1 medium 1 base 1 margin 0 0",
+    "contract 1 kind 1 seller 1 buyer 2 place market first 0 last 23 price 1 peak 1 medium 1 base 1 margin -1",
+    "contract 1 kind 1 seller 1 buyer 2 place market first 0 last 4294967296 price 1 peak 1 medium 1 base 1 margin 0",
+    "contract 4294967296 kind 1 seller 1 buyer 2 place market first 0 last 23 price 1 peak 1 medium 1 base 1 margin 0",
+    *[
+        f"contract 1 kind 1 seller 1 buyer 2 place {place} first 0 last 23 price 1 peak 1 medium 1 base 1 margin 0"
+        for place in ("bar", "Market", "generator", 0, 4, 5, 11, HUGE, HUGE + 1)
+    ],
     "packet 08",
-    "cancel 1",
-    "close",
+    "cancel",
+    "cancel x",
+    "cancel -1",
+    "cancel 4294967296",
+    "cancel contract 1",
+    "cancel 1 2",
+    "close 1",
+    "close now",
+    "closed",
+    "Close",
 ]
 
 # Where a line of a posting is begun.
@@ -573,6 +600,17 @@ def passed_over():
     yield "more spaces", text, OPENED, "Line 3, withdraw hour 7: refused, fault 9 at 7,"
     text = opening(["01"]) + "statement 0000000000000000000001\n"
     yield "leading zeros", text, OPENED, "Line 3, statement 1: accepted."
+    terms = "kind 01 seller 1 buyer 2 place 003 first 0 last 023 price 1 peak 0 medium 0 base 0 margin 0"
+    text = opening([1, 2]) + f" contract  064   {terms} \n# aside\n\ncancel  0064  \n  close \n"
+    yield (
+        "more spaces and leading zeros, contracts and closing",
+        text,
+        OPENED,
+        "Line 4, contract 64: accepted.",
+        "Line 7, cancel 64: accepted.",
+        "Line 8, close: refused, fault 10 at 0,",
+    )
+    yield "no last line feed after a closing", opening([1]) + "close", OPENED, "Line 3, close: refused, fault 10 at 0,"
     yield "no last line feed", opening([1]) + post(line()).rstrip(), OPENED, "Line 3, post hour 0: accepted."
     words = post(line("normal"), line("obligated"), line("forced", 2), line("normal"))
     yield "classes in words", opening([1, 1, 1, 2], weekday="sunday") + words, OPENED, "Line 6, post hour 0: accepted."

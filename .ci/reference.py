@@ -1,31 +1,20 @@
-"""A model of the month's book, made apart from the program, to compare it with.
+"""What the program prints, from the model of the month's book.
 
-    python3 .ci/reference.py FILE        (or - for standard input)
+    python3 .ci/reference.py settle FILE
+    python3 .ci/reference.py audit FILE       (or - for standard input)
 
-It reads a journal and prints what `gibzurg settle` should print. It is written from docs/RULES.md,
-docs/FAULTS.md and docs/JOURNAL.md alone, in Python's unbounded integers. It keeps no accounts:
-it remembers the postings that stand and works every statement from them anew.
+It reads a journal and prints what `gibzurg` should print, written from docs/JOURNAL.md alone. The rules are in book.py.
 """
 
 import sys
-from itertools import accumulate
 from typing import NamedTuple
 
-# ---- Limits
-
-AGENTS = 64
-DAYS = 31
-HOURLY_KWH = 4_000_000
-POWER = 1_000_000
-PRICE = 2_000_000
-FACTORS = range(50_000, 150_000 + 1)
-
-GENERATOR, DISTRIBUTOR, CONSUMER = 1, 2, 3
-NORMAL, OBLIGATED, FORCED = 1, 2, 3
+from book import Agent, Book, Contract, Line, MonthClosed, Posting, Refused
 
 WEEKDAYS = dict(monday=0, tuesday=1, wednesday=2, thursday=3, friday=4, saturday=5, sunday=6)
-ROLES = dict(generator=GENERATOR, distributor=DISTRIBUTOR, consumer=CONSUMER)
-CLASSES = dict(normal=NORMAL, obligated=OBLIGATED, forced=FORCED)
+ROLES = dict(generator=1, distributor=2, consumer=3)
+CLASSES = dict(normal=1, obligated=2, forced=3)
+PLACES = dict(market=1, seller=2, buyer=3)
 
 FAULTS = {
     1: "memory of the wrong size",
@@ -37,176 +26,14 @@ FAULTS = {
     7: "all injected or all withdrawn energy together is above the limit",
     8: "obligated excess and no withdrawn energy carries it",
     9: "the hour is free",
+    10: "an hour of the month is missing",
+    11: "power is due and no withdrawn energy carries it",
+    12: "the contract number is outside 1 to 64, taken or not standing",
+    13: "the contract's parties, hours, figures or terms do not fit",
+    14: "a covered hour stands",
 }
 
-
-class Agent(NamedTuple):
-    role: int
-    capacity: int
-    power: int
-
-
-class Line(NamedTuple):
-    kind: int  # the class
-    cause: int
-    injected: int
-    withdrawn: int
-    gross: int
-    factor: int
-    cost: int
-
-
-class Posting(NamedTuple):
-    price: int
-    lines: list
-
-
-class Refused(Exception):
-    """A call meets a fault: its number and its place."""
-
-
-def refuse_first(faults):
-    """Of the faults met, answers the smallest number, and of one number the first place."""
-    if faults:
-        raise Refused(*min(faults))
-
-
-# ---- Amounts and shares
-
-
-def amount(kwh, factor, price):
-    return (kwh * factor * price + 5_000_000) // 10_000_000
-
-
-def cost_amount(kwh, cost):
-    return (kwh * cost + 50) // 100
-
-
-def share(points, weights):
-    """The part of the points that each weight carries."""
-    if points == 0:
-        return [0] * len(weights)
-    total = sum(weights)
-    whole, rest = divmod(points, total)
-    reached = [rest * upto // total for upto in accumulate(weights, initial=0)]
-    return [whole * w + reached[i + 1] - reached[i] for i, w in enumerate(weights)]
-
-
-def excess(line, price):
-    if line.kind == NORMAL or line.cost < price:
-        return 0
-    return max(0, cost_amount(line.gross, line.cost) - amount(line.injected, line.factor, price))
-
-
-# ---- The book
-
-
-class Book:
-    def __init__(self, days, weekday, agents):
-        bad = not 1 <= len(agents) <= AGENTS or not 1 <= days <= DAYS or weekday > 6
-        for agent in agents:
-            bad = bad or agent.role not in (GENERATOR, DISTRIBUTOR, CONSUMER)
-            bad = bad or agent.capacity > HOURLY_KWH or agent.power > POWER
-            bad = bad or (agent.role != GENERATOR and agent.power != 0)
-        refuse_first([(3, 0)] if bad else [])
-        self.agents = agents
-        self.hours = 24 * days
-        self.standing = {}
-
-    def post(self, hour, posting):
-        faults = [(4, hour)] if hour >= self.hours else []
-        if len(posting.lines) != len(self.agents) or posting.price > PRICE:
-            faults.append((5, 0))
-        for place, line in enumerate(posting.lines, start=1):
-            if self.beyond_limit(line):
-                faults.append((5, place))
-        for place, (line, agent) in enumerate(zip(posting.lines, self.agents), start=1):
-            if self.breaks_rule(line, agent):
-                faults.append((6, place))
-        if self.together(posting, "injected") > HOURLY_KWH or self.together(posting, "withdrawn") > HOURLY_KWH:
-            faults.append((7, 0))
-        if not faults and self.obligated(posting) > 0 and sum(self.weights(posting)) == 0:
-            faults.append((8, 0))
-        refuse_first(faults)
-        self.standing[hour] = posting
-
-    def withdraw(self, hour):
-        if hour >= self.hours:
-            refuse_first([(4, hour)])
-        if hour not in self.standing:
-            refuse_first([(9, hour)])
-        del self.standing[hour]
-
-    @staticmethod
-    def beyond_limit(line):
-        energies = max(line.injected, line.withdrawn, line.gross)
-        return energies > HOURLY_KWH or line.factor not in FACTORS or line.cost > PRICE
-
-    def breaks_rule(self, line, agent):
-        if line.kind == NORMAL:
-            return line.cause != 0 or line.gross != 0 or line.cost != 0
-        if line.kind not in (OBLIGATED, FORCED) or agent.role != GENERATOR or line.gross < line.injected:
-            return True
-        if line.kind == FORCED:
-            return not 1 <= line.cause <= len(self.agents)
-        return line.cause != 0
-
-    @staticmethod
-    def together(posting, energy):
-        return sum(getattr(line, energy) for line in posting.lines)
-
-    @staticmethod
-    def obligated(posting):
-        """The excess of the obligated lines of an hour, together."""
-        return sum(excess(line, posting.price) for line in posting.lines if line.kind == OBLIGATED)
-
-    def weights(self, posting):
-        """What each agent carries obligated excess by; a generator carries none."""
-        return [0 if a.role == GENERATOR else line.withdrawn for a, line in zip(self.agents, posting.lines)]
-
-    # ---- worked from what stands
-
-    @staticmethod
-    def market_lines(posting):
-        return [
-            amount(line.injected, line.factor, posting.price) - amount(line.withdrawn, line.factor, posting.price)
-            for line in posting.lines
-        ]
-
-    def overcost_lines(self, posting):
-        lines = [-part for part in share(self.obligated(posting), self.weights(posting))]
-        for place, line in enumerate(posting.lines):
-            lines[place] += excess(line, posting.price)
-            if line.kind == FORCED:
-                lines[line.cause - 1] -= excess(line, posting.price)
-        return lines
-
-    def statements(self):
-        """Every agent's market line, overcost line, injected, withdrawn, peak and its hour."""
-        count = len(self.agents)
-        market, overcost = [0] * count, [0] * count
-        injected, withdrawn = [0] * count, [0] * count
-        peak = [(0, 0)] * count
-        for hour, posting in sorted(self.standing.items()):
-            hourly = zip(posting.lines, self.market_lines(posting), self.overcost_lines(posting))
-            for a, (line, market_line, overcost_line) in enumerate(hourly):
-                market[a] += market_line
-                overcost[a] += overcost_line
-                injected[a] += line.injected
-                withdrawn[a] += line.withdrawn
-                if line.withdrawn > peak[a][0]:
-                    peak[a] = (line.withdrawn, hour)
-        return list(zip(market, overcost, injected, withdrawn, peak))
-
-    def residue(self):
-        return sum(
-            amount(line.withdrawn, line.factor, posting.price) - amount(line.injected, line.factor, posting.price)
-            for posting in self.standing.values()
-            for line in posting.lines
-        )
-
-
-# ---- What is printed
+# ---- What is printed of statements
 
 
 def dollars(points):
@@ -214,28 +41,36 @@ def dollars(points):
     return f"{sign}{abs(points) // 10_000}.{abs(points) % 10_000:04d} dollars"
 
 
-def show_statement(agent, role, statement):
-    market, overcost, injected, withdrawn, (peak, hour) = statement
-    role_word = next(word for word, number in ROLES.items() if number == role)
+def show_statement(book, agent, statement):
+    role_word = next(word for word, number in ROLES.items() if number == book.agents[agent - 1].role)
+    kwh, hour = statement.peak
     return [
-        f"Statement of agent {agent}, {role_word}, provisional.",
-        f"Market: {dollars(market)}.",
-        f"Contracts: {dollars(0)}.",
-        f"Overcost: {dollars(overcost)}.",
-        f"Power: {dollars(0)}.",
-        f"Balance: {dollars(market + overcost)}.",
-        f"Injected: {injected} kilowatt-hours.",
-        f"Withdrawn: {withdrawn} kilowatt-hours.",
-        f"Peak: {peak} kilowatt-hours in hour {hour}.",
+        f"Statement of agent {agent}, {role_word}, {'final' if book.closed else 'provisional'}.",
+        f"Market: {dollars(statement.market)}.",
+        f"Contracts: {dollars(statement.contracts)}.",
+        f"Overcost: {dollars(statement.overcost)}.",
+        f"Power: {dollars(statement.power)}.",
+        f"Balance: {dollars(statement.balance)}.",
+        f"Injected: {statement.injected} kilowatt-hours.",
+        f"Withdrawn: {statement.withdrawn} kilowatt-hours.",
+        f"Peak: {kwh} kilowatt-hours in hour {hour}.",
         "End of statement.",
     ]
 
 
-def show_totals(book, statements):
-    balances = sum(market + overcost for market, overcost, *_ in statements)
-    word = "is" if balances == -book.residue() else "is NOT"
-    return [
-        f"Sum of balances: {dollars(balances)}.",
+def together(statements):
+    return sum(statement.balance for statement in statements)
+
+
+def show_all(book):
+    """The statements of every agent, and the totals."""
+    statements = book.statements()
+    printed = []
+    for agent, statement in enumerate(statements, start=1):
+        printed += show_statement(book, agent, statement)
+    word = "is" if together(statements) == -book.residue() else "is NOT"
+    return printed + [
+        f"Sum of balances: {dollars(together(statements))}.",
         f"Residue of the standing hours: {dollars(book.residue())}.",
         f"The sum of balances {word} minus the residue.",
     ]
@@ -247,12 +82,18 @@ def show_totals(book, statements):
 FORMS = {
     "open": [("agents", {}), ("days", {}), ("weekday", WEEKDAYS)],
     "agent": [("", {}), ("role", ROLES), ("capacity", {}), ("power", {})],
+    "contract": [("", {}), ("kind", {}), ("seller", {}), ("buyer", {}), ("place", PLACES)]
+    + [(label, {}) for label in ("first", "last", "price", "peak", "medium", "base", "margin")],
+    "cancel": [("", {})],
     "post": [("hour", {}), ("price", {})],
     "line": [("class", CLASSES)] + [(label, {}) for label in ("cause", "injected", "withdrawn", "gross", "factor", "cost")],
     "withdraw": [("hour", {})],
+    "close": [],
     "statement": [("", {})],
     "statements": [],
 }
+
+CALLS = [form for form in FORMS if form not in ("agent", "line")]
 
 
 class Malformed(Exception):
@@ -299,9 +140,35 @@ def read_figures(number, words):
             figures.append(int(word))
         else:
             raise Malformed(number, f"a number after {label or words[0]}")
+        if label == "place" and figures[-1] not in PLACES.values():
+            raise Malformed(number, "a place of delivery")
     if next(rest, None) is not None:
         raise Malformed(number, "the end of the line")
     return figures
+
+
+class Call(NamedTuple):
+    number: int  # of the journal's line
+    form: str
+    name: str  # as it is printed
+    given: list  # what the book is given
+
+
+def calls(journal):
+    """The calls of a journal one by one, until a line of the wrong form."""
+    while journal.left:
+        number, form, figures = journal.take(*CALLS)
+        label = " hour" if form in ("post", "withdraw") else ""
+        name = f"{form}{label} {figures[0]}" if figures and form != "open" else form
+        if form == "open":
+            count, days, weekday = figures
+            figures = [days, weekday, read_agents(journal, count)]
+        elif form == "post":
+            hour, price = figures
+            figures = [hour, Posting(price, read_lines(journal))]
+        elif form == "contract":
+            figures = [figures[0], Contract(*figures[1:])]
+        yield Call(number, form, name, figures)
 
 
 def read_agents(journal, count):
@@ -321,55 +188,138 @@ def read_lines(journal):
     return lines
 
 
-def show(book, only=None):
-    """The statements of every agent and the totals, or of one agent alone."""
-    statements = book.statements()
-    shown = range(1, len(statements) + 1) if only is None else [only]
-    printed = []
-    for agent in shown:
-        printed += show_statement(agent, book.agents[agent - 1].role, statements[agent - 1])
-    return printed + (show_totals(book, statements) if only is None else [])
+# ---- Settling
+
+
+def hear(book, call):
+    """What a book does with a call of the journal: its answer, and what is printed below it."""
+    try:
+        if call.form == "statement":
+            return "accepted", show_statement(book, call.given[0], book.statement(*call.given))
+        if call.form == "statements":
+            return "accepted", show_all(book)
+        change = dict(contract=book.enter, cancel=book.cancel, post=book.post, withdraw=book.withdraw, close=book.close)
+        change[call.form](*call.given)
+        return "accepted", []
+    except Refused as refusal:
+        return refused(refusal), []
+    except MonthClosed:
+        return "skipped, the month is closed", []
+
+
+def refused(refusal):
+    fault, place = refusal.args
+    return f"refused, fault {fault} at {place}, {FAULTS[fault]}"
+
+
+def open_book(call):
+    """The book that an `open` begins, if it is accepted, and the answer."""
+    try:
+        return Book(*call.given), "accepted"
+    except Refused as refusal:
+        return None, refused(refusal)
 
 
 def settle(journal, say):
     """Hears the journal and says what is printed, line by line."""
     book = None
-    while journal.left:
-        number, form, figures = journal.take("open", "post", "withdraw", "statement", "statements")
-        label = {"post": " hour", "withdraw": " hour"}.get(form, "")
-        call = form + (f"{label} {figures[0]}" if form in ("post", "withdraw", "statement") else "")
+    for call in calls(journal):
         printed = []
-        try:
-            if form == "open":
-                book = None
-                count, days, weekday = figures
-                book = Book(days, weekday, read_agents(journal, count))
-            elif form == "post":
-                posting = Posting(figures[1], read_lines(journal))
-                if book:
-                    book.post(figures[0], posting)
-            elif book and form == "withdraw":
-                book.withdraw(figures[0])
-            elif book and form == "statement":
-                if not 1 <= figures[0] <= len(book.agents):
-                    refuse_first([(3, 0)])
-                printed = show(book, figures[0])
-            elif book:
-                printed = show(book)
-            answer = "accepted" if book else "skipped, no book is open"
-        except Refused as refusal:
-            fault, place = refusal.args
-            answer = f"refused, fault {fault} at {place}, {FAULTS[fault]}"
-        say(f"Line {number}, {call}: {answer}.")
+        if call.form == "open":
+            book, answer = open_book(call)
+        elif book:
+            answer, printed = hear(book, call)
+        else:
+            answer = "skipped, no book is open"
+        say(f"Line {call.number}, {call.name}: {answer}.")
         for line in printed:
             say(line)
 
 
-def run(text):
-    """What settling this journal prints on standard output and standard error, and its status."""
+# ---- Auditing
+
+
+def audit(journal, say):
+    """Settles the last book opened three times, and says what is alike."""
+    opening, asked = None, []
+    for call in calls(journal):
+        if call.form == "open":
+            opening, asked = call, []
+        else:
+            asked.append(call)
+    if opening is None:
+        say("Audit: none, since no book was opened.")
+        return
+    book, answer = open_book(opening)
+    if book is None:
+        say(f"Audit: none, since the last opening was {answer}.")
+        return
+    for line in findings(book, asked):
+        say(line)
+
+
+def answers(book, asked, heard=lambda call: True):
+    """The book's answers to the calls that are no contract calls, of those that it hears."""
+    told = []
+    for call in filter(heard, asked):
+        answer, _ = hear(book, call)
+        if call.form == "statements":
+            # It asks for the statement of each agent, one by one.
+            told += [answer] * len(book.agents)
+        elif not about_contracts(call):
+            told.append(answer)
+    return told
+
+
+def about_contracts(call):
+    return call.form in ("contract", "cancel")
+
+
+def settle_standing(book):
+    """A book opened alike that hears what stands in this one, and nothing else."""
+    again = book.alike()
+    for number, contract in book.contracts.items():
+        again.enter(number, contract)
+    for hour, posting in sorted(book.standing.items()):
+        again.post(hour, posting)
+    if book.closed:
+        again.close()
+    return again
+
+
+def findings(first, asked):
+    """What an audit says of a book that has just been opened."""
+    second = first.alike()
+    one = answers(first, asked)
+    other = answers(second, asked, lambda call: not about_contracts(call))
+    books = first, second, settle_standing(first)
+    alike = sum(pair[0] == pair[1] for pair in zip(one, other, strict=True))
+    yield f"Calls that the first and the second book both heard: {len(one)}."
+    yield f"Of these calls, answered alike: {alike}."
+    for name, book in zip(("first", "second", "third"), books):
+        yield f"Sum of balances in the {name} book: {dollars(together(book.statements()))}."
+    yield f"Residue of the standing hours: {dollars(first.residue())}."
+    statements = list(zip(*(book.statements() for book in books)))
+    parties = {party for contract in first.contracts.values() for party in (contract.seller, contract.buyer)}
+    strangers = [of_three for agent, of_three in enumerate(statements, start=1) if agent not in parties]
+    same = sum(of_three[0] == of_three[1] for of_three in strangers)
+    again = sum(of_three[0] == of_three[2] for of_three in statements)
+    yield f"Agents that are party to no standing contract: {len(strangers)}."
+    yield f"Of these agents, with the same statement in the first and the second book: {same}."
+    yield f"Agents with the same statement in the first and the third book: {again}."
+    if (alike, same, again) != (len(one), len(strangers), len(statements)):
+        raise AssertionError("by the rules nothing can differ, and the model's own books do")
+    yield "Agents and lines that differ: none."
+
+
+COMMANDS = {"settle": settle, "audit": audit}
+
+
+def run(command, text):
+    """What a command prints on standard output and standard error for this journal, and its status."""
     said = []
     try:
-        settle(Journal(text), said.append)
+        COMMANDS[command](Journal(text), said.append)
     except Malformed as malformed:
         number, expected = malformed.args
         return said, [f"Line {number}: expected {expected}."], 1
@@ -377,14 +327,14 @@ def run(text):
 
 
 def main():
-    if len(sys.argv) != 2:
-        sys.exit("usage: python3 .ci/reference.py FILE")
-    if sys.argv[1] == "-":
+    if len(sys.argv) != 3 or sys.argv[1] not in COMMANDS:
+        sys.exit("usage: python3 .ci/reference.py settle|audit FILE")
+    if sys.argv[2] == "-":
         text = sys.stdin.buffer.read()
     else:
-        with open(sys.argv[1], "rb") as file:
+        with open(sys.argv[2], "rb") as file:
             text = file.read()
-    said, errors, status = run(text)
+    said, errors, status = run(sys.argv[1], text)
     for line in said:
         print(line)
     for line in errors:
