@@ -1,5 +1,6 @@
 -- What an audit is lent, when it is refused, and the books that it settles. Assumes nothing.
 use Rattle.std.specs.Prelude.{◌≡◌, ℕ, Bool, true, not, ◌&&◌, List, [], ◌∷◌, map, length, ℤ, Option, ◌==◌}
+use Rattle.forms.specs.declared.Contract.{Contract}
 use Rattle.forms.specs.Meaning.{Meaning}
 use Rattle.settlement.specs.declared.agents.Agent.{Agent}
 use Rattle.settlement.specs.declared.faults.BookFault.{BookFault}
@@ -62,6 +63,10 @@ audit_fault f calls memory found = first_met (met_if (not (places_fit calls (len
 -- a book as it was run, by what it was told, its statements and all balances together
 abbrev pub book_of : List Reply → List Statement → ℤ → Book
 book_of told statements balances = record { told = told; statements = map worked_in statements; balances = balances }
+
+-- the contract places as they stand after a list of requests
+abbrev pub places_after : Meaning → MonthFigures → List Agent → List Request → List (Option Contract)
+places_after form f agents requests = (after form (opening_of f.days f.weekday agents) requests).places
 
 -- what stands at the end, as requests for the third book
 abbrev pub asked_again : Meaning → MonthFigures → List Agent → List Request → List Request

@@ -2,3 +2,4 @@ pub mod Only
 pub mod Again
 pub mod Settlings
 pub mod Audits
+pub mod Compared

@@ -7,9 +7,13 @@ ghost use Rattle.book.specs.Lent.{memory_with, SameLoan};
 ghost use Rattle.standing.specs.Law.{is_done, Settled};
 ghost use Rattle.standing.specs.Requests.{told_without};
 ghost use Rattle.runs.specs.Reading.{opening_of, request_of, reply_of};
-ghost use Rattle.audit.specs.Audits.{lent_with, places_fit, SamePlaces, audit_fault, book_of, asked_again, told_again};
+ghost use Rattle.audit.specs.Audits.{lent_with, places_fit, SamePlaces, audit_fault, book_of, places_after, asked_again, told_again};
+ghost use Rattle.audit.specs.Compared.{Compared};
 ghost use Rattle.audit.specs.Settlings.{ended};
 
+use crate::comparisons::{
+    count_alike, count_heard, count_same, count_strangers, count_strangers_same,
+};
 use crate::residues::standing_residue;
 use crate::settling::{settle_calls, settle_standing};
 use book::{Agent, BookFault, Ledger, MonthFigures, Pool, Statement};
@@ -26,7 +30,7 @@ pub struct Findings<'f> {
     pub statements_again: &'f mut [Statement],
 }
 
-/// What an audit comes to, in points.
+/// What an audit comes to. Sums are in points.
 #[derive(Clone, Copy, PartialEq, Eq, Debug)]
 pub struct Report {
     /// All balances together, of the book that heard the calls.
@@ -39,6 +43,14 @@ pub struct Report {
     pub residue: i64,
     /// Whether the third did all that it was asked.
     pub repeated: bool,
+    /// How many calls the first two both heard, and how many of those were answered alike.
+    pub heard: usize,
+    pub alike: usize,
+    /// How many agents are party to no contract standing in the first, and how many of those have the same statement in the first and the second.
+    pub strangers: usize,
+    pub strangers_same: usize,
+    /// How many agents have the same statement in the first and the third.
+    pub same: usize,
 }
 
 impl Findings<'_> {
@@ -77,6 +89,7 @@ fn settle_books<F: ContractForm>(
     ensures lent { SameLoan ledger.old ledger.new }
     ensures memory { memory_with agents.now contracts.new ledger.new ≡ (ended true (F.meaning form.now) figures (asked_again (F.meaning form.now) figures agents.now (map request_of calls.now)) (memory_with agents.now contracts.old ledger.old)).memory }
     ensures settled { Settled (F.meaning form.now) (opening_of figures.days figures.weekday agents.now) (map request_of calls.now) (book_of (map reply_of answers.new) statements.new result.balances) (book_of (told_without (map request_of calls.now) (map reply_of answers_without.new)) statements_without.new result.balances_without) (book_of (told_again (F.meaning form.now) figures (map request_of calls.now) (memory_with agents.now contracts.old ledger.old)) statements_again.new result.balances_again) result.residue }
+    ensures compared { Compared figures.agents calls.now answers.new answers_without.new (places_after (F.meaning form.now) figures agents.now (map request_of calls.now)) statements.new statements_without.new statements_again.new result }
     ensures repeated { result.repeated ≡ list_all is_done (told_again (F.meaning form.now) figures (map request_of calls.now) (memory_with agents.now contracts.old ledger.old)) }
 {
     let first = settle_calls(
@@ -115,6 +128,16 @@ fn settle_books<F: ContractForm>(
         balances_again: third.settlement.balances,
         residue,
         repeated: third.done,
+        heard: count_heard(calls),
+        alike: count_alike(calls, answers, answers_without),
+        strangers: count_strangers(figures.agents, &places),
+        strangers_same: count_strangers_same(
+            figures.agents,
+            &places,
+            statements,
+            statements_without,
+        ),
+        same: count_same(statements, statements_again),
     }
 }
 
@@ -136,6 +159,7 @@ pub fn audit<F: ContractForm>(
     ensures untouched { OnErr result (lent_with (memory_with agents.now contracts.new ledger.new) findings.new ≡ lent_with (memory_with agents.now contracts.old ledger.old) findings.old) }
     ensures memory { OnOk result (memory_with agents.now contracts.new ledger.new ≡ (ended true (F.meaning form.now) figures (asked_again (F.meaning form.now) figures agents.now (map request_of calls.now)) (memory_with agents.now contracts.old ledger.old)).memory) }
     ensures settled { IfOk result (λ report. Settled (F.meaning form.now) (opening_of figures.days figures.weekday agents.now) (map request_of calls.now) (book_of (map reply_of findings.new.answers.now) findings.new.statements.now report.balances) (book_of (told_without (map request_of calls.now) (map reply_of findings.new.answers_without.now)) findings.new.statements_without.now report.balances_without) (book_of (told_again (F.meaning form.now) figures (map request_of calls.now) (memory_with agents.now contracts.old ledger.old)) findings.new.statements_again.now report.balances_again) report.residue) }
+    ensures compared { IfOk result (λ report. Compared figures.agents calls.now findings.new.answers.now findings.new.answers_without.now (places_after (F.meaning form.now) figures agents.now (map request_of calls.now)) findings.new.statements.now findings.new.statements_without.now findings.new.statements_again.now report) }
     ensures repeated { IfOk result (λ report. report.repeated ≡ list_all is_done (told_again (F.meaning form.now) figures (map request_of calls.now) (memory_with agents.now contracts.old ledger.old))) }
 {
     if !findings.fits(calls.len(), agents.len()) {

@@ -4,6 +4,7 @@
 
 mod again;
 mod audits;
+mod comparisons;
 mod residues;
 mod settling;
 

@@ -1,10 +1,9 @@
-//! Memory for a book of two agents and one day, with a place more of each kind, and one call on it.
-use crate::slices::post_in;
+//! Memory for a book of five agents and one day, with a place more of each kind, and what is done on it.
 use book::{
-    Agent, BookFault, Entry, Ledger, Line, MonthFigures, OpenMonth, Pool, day_total, open, post,
-    provisional, withdraw,
+    Account, Agent, BookFault, ClosedMonth, Entry, Ledger, Line, MonthFigures, OpenMonth, Pool,
+    Statement, close, final_statement, open, post, provisional, withdraw,
 };
-use forms::Contract;
+use forms::{Contract, Delivery, Product};
 use tally::{Energy, Money, Pair, Tally};
 
 /// How much of the memory is lent to the call.
@@ -18,40 +17,107 @@ pub(crate) struct Sizes {
     pub(crate) entries: usize,
 }
 
-/// The sizes that a book of two agents and one day has.
+/// The sizes that a book of five agents and one day has.
 pub(crate) const RIGHT: Sizes = Sizes {
-    agents: 2,
-    accounts: 2,
+    agents: 5,
+    accounts: 5,
     contracts: 64,
     marks: 24,
-    entries: 48,
+    entries: 120,
 };
 
-/// A stored figure, changed between the opening and the call.
-// Kept as an enum: the cases are a table that each call goes through, and a list of closures would have to hold boxed ones.
-#[derive(Clone, Copy)]
-pub(crate) enum Damage {
-    SecondAgent(Agent),
-    LastMark(u8),
-    LastEntry {
-        injected: u64,
-        withdrawn: u64,
-    },
-    Accounts {
-        injected: u64,
-        first: u64,
-        second: u64,
-    },
-}
+/// Five agents, one day, from a Sunday on.
+const FIGURES: MonthFigures = MonthFigures {
+    agents: 5,
+    days: 1,
+    weekday: 6,
+};
 
-/// The call that is tried.
-// Kept as an enum: a list of calls would have to hold boxed closures, which is no plainer.
-#[derive(Clone, Copy)]
-pub(crate) enum Trial {
-    Post,
-    Withdraw,
-    Statement,
-    Day,
+/// A generator at every limit.
+pub(crate) const GENERATOR: Agent = Agent {
+    role: 1,
+    capacity: 4_000_000,
+    power: 1_000_000,
+};
+
+pub(crate) const DISTRIBUTOR: Agent = Agent {
+    role: 2,
+    capacity: 100,
+    power: 0,
+};
+
+const CONSUMER: Agent = Agent {
+    role: 3,
+    capacity: 0,
+    power: 0,
+};
+
+const SMALL_GENERATOR: Agent = Agent {
+    role: 1,
+    capacity: 0,
+    power: 0,
+};
+
+/// A line of an agent that does nothing.
+pub(crate) const IDLE: Line = Line {
+    class: 1,
+    cause: 0,
+    injected: 0,
+    withdrawn: 0,
+    gross: 0,
+    factor: 100_000,
+    cost: 0,
+};
+
+/// A generator's injection, a distributor's withdrawal, and three agents that do nothing.
+pub(crate) const LINES: [Line; 5] = [
+    Line {
+        injected: 1_000,
+        factor: 95_000,
+        ..IDLE
+    },
+    Line {
+        withdrawn: 970,
+        factor: 102_000,
+        ..IDLE
+    },
+    IDLE,
+    IDLE,
+    IDLE,
+];
+
+/// A block of 100 kWh in every band at the market bar, from agent 1 to agent 2, for three hours of the day.
+pub(crate) const BLOCK: Contract = Contract {
+    delivery: Delivery::MarketBar,
+    kind: 1,
+    seller: 1,
+    buyer: 2,
+    first: 5,
+    last: 7,
+    price: 50_000,
+    peak: 100,
+    medium: 100,
+    base: 100,
+    margin: 0,
+};
+
+/// A share of what agent 1 injects, for agent 2, in the hours of the block.
+pub(crate) const SHARE: Contract = Contract {
+    kind: 2,
+    peak: 0,
+    medium: 0,
+    base: 0,
+    ..BLOCK
+};
+
+/// All memory of the book, with a place more of each kind.
+#[derive(Clone, Copy, PartialEq, Eq)]
+pub(crate) struct Memory {
+    pub(crate) agents: [Agent; 6],
+    pub(crate) accounts: [Entry; 6],
+    pub(crate) contracts: [Option<Contract>; 65],
+    pub(crate) marks: [u8; 25],
+    pub(crate) entries: [Entry; 121],
 }
 
 /// A refusal, by its number and place.
@@ -75,36 +141,15 @@ impl From<BookFault> for Refusal {
 /// How a call was answered.
 pub(crate) type Told = Result<(), Refusal>;
 
-/// Two agents, one day, from a Sunday on.
-const FIGURES: MonthFigures = MonthFigures {
-    agents: 2,
-    days: 1,
-    weekday: 6,
-};
+pub(crate) const ACCEPTED: Told = Ok(());
 
-const GENERATOR: Agent = Agent {
-    role: 1,
-    capacity: 4_000_000,
-    power: 1_000_000,
-};
+/// The answer of a call that is refused.
+pub(crate) fn refused(number: u32, place: u32) -> Told {
+    Err(Refusal { number, place })
+}
 
-const DISTRIBUTOR: Agent = Agent {
-    role: 2,
-    capacity: 0,
-    power: 0,
-};
-
-const LINE: Line = Line {
-    class: 1,
-    cause: 0,
-    injected: 10,
-    withdrawn: 10,
-    gross: 0,
-    factor: 100_000,
-    cost: 0,
-};
-
-fn energy_alone(injected: u64, withdrawn: u64) -> Entry {
+/// An entry or an account with energies alone.
+pub(crate) fn energy_alone(injected: u64, withdrawn: u64) -> Entry {
     Pair {
         first: Money::neutral(),
         second: Energy {
@@ -114,173 +159,181 @@ fn energy_alone(injected: u64, withdrawn: u64) -> Entry {
     }
 }
 
-/// Changes the stored figure, and nothing where that lies in other memory.
-fn damage_accounts(accounts: &mut [Entry; 3], damage: Damage) {
-    if let Damage::Accounts {
-        injected,
-        first,
-        second,
-    } = damage
-    {
-        accounts[0] = energy_alone(injected, first);
-        accounts[1] = energy_alone(0, second);
+impl Memory {
+    /// Memory of a book that is not opened yet.
+    pub(crate) fn new() -> Memory {
+        let nothing: Entry = Pair::neutral();
+        Memory {
+            agents: [
+                GENERATOR,
+                DISTRIBUTOR,
+                CONSUMER,
+                DISTRIBUTOR,
+                SMALL_GENERATOR,
+                DISTRIBUTOR,
+            ],
+            accounts: [nothing; 6],
+            contracts: [None; 65],
+            marks: [1u8; 25],
+            entries: [nothing; 121],
+        }
+    }
+
+    /// Sets the marks of hours.
+    pub(crate) fn mark(&mut self, hours: &[usize], new: u8) {
+        for hour in hours {
+            if let Some(mark) = self.marks.get_mut(*hour) {
+                *mark = new;
+            }
+        }
     }
 }
 
-fn damage_entries(entries: &mut [Entry; 49], damage: Damage) {
-    if let Damage::LastEntry {
-        injected,
-        withdrawn,
-    } = damage
-    {
-        entries[47] = energy_alone(injected, withdrawn);
+/// So much of an open book's accounts, marks and entries, lent to a call.
+pub(crate) fn ledger_of<'m>(
+    accounts: &'m mut [Account; 6],
+    marks: &'m mut [u8; 25],
+    entries: &'m mut [Entry; 121],
+    sizes: Sizes,
+) -> Ledger<'m> {
+    Ledger {
+        accounts: &mut accounts[0..sizes.accounts.min(6)],
+        marks: &mut marks[0..sizes.marks.min(25)],
+        entries: &mut entries[0..sizes.entries.min(121)],
     }
 }
 
-fn damage_rest(agents: &mut [Agent; 3], marks: &mut [u8; 25], damage: Damage) {
-    match damage {
-        Damage::SecondAgent(agent) => agents[1] = agent,
-        Damage::LastMark(mark) => marks[23] = mark,
-        _ => {}
-    }
+/// Opens the book on so much of its memory.
+pub(crate) fn open_on(memory: &mut Memory, sizes: Sizes) -> Result<OpenMonth, BookFault> {
+    let Memory {
+        agents,
+        accounts,
+        contracts,
+        marks,
+        entries,
+    } = memory;
+    let mut ledger = ledger_of(accounts, marks, entries, sizes);
+    let agents = &agents[0..sizes.agents.min(6)];
+    let contracts = &mut contracts[0..sizes.contracts.min(65)];
+    open(FIGURES, agents, contracts, &mut ledger)
 }
 
-fn call(
+/// Posts an hour in a book that is open.
+pub(crate) fn post_on(
+    memory: &mut Memory,
     month: &OpenMonth,
-    trial: Trial,
-    pool: &Pool<'_>,
-    ledger: &mut Ledger<'_>,
-) -> Result<(), BookFault> {
-    match trial {
-        Trial::Post => post_in(
-            month,
-            23,
-            50_000,
-            &[LINE, LINE],
-            pool.agents,
-            ledger.accounts,
-            pool.contracts,
-            ledger.marks,
-            ledger.entries,
-        ),
-        Trial::Withdraw => withdraw(month, 0, pool, ledger),
-        Trial::Statement => {
-            provisional(month, 2, &ledger.view(pool))?;
-            Ok(())
-        }
-        Trial::Day => {
-            day_total(month, 2, 1, &ledger.view(pool))?;
-            Ok(())
-        }
-    }
+    hour: u32,
+    price: u32,
+    lines: &[Line],
+) -> Told {
+    let Memory {
+        agents,
+        accounts,
+        contracts,
+        marks,
+        entries,
+    } = memory;
+    let pool = Pool {
+        agents: &agents[0..RIGHT.agents.min(6)],
+        contracts: &contracts[0..RIGHT.contracts.min(65)],
+    };
+    let mut ledger = ledger_of(accounts, marks, entries, RIGHT);
+    post(month, &Product, hour, price, lines, &pool, &mut ledger)?;
+    Ok(())
 }
 
-/// Opens a book, damages its memory, lends so much of it to a call, and tells how the call was answered.
-pub(crate) fn tried(sizes: Sizes, damage: Option<Damage>, trial: Trial) -> Told {
-    let nothing: Entry = Pair::neutral();
-    let mut agents = [GENERATOR, DISTRIBUTOR, DISTRIBUTOR];
-    let mut accounts = [nothing; 3];
-    let mut contracts: [Option<Contract>; 65] = [None; 65];
-    let mut marks = [1u8; 25];
-    let mut entries = [nothing; 49];
-    let mut right = Ledger {
-        accounts: &mut accounts[0..2],
-        marks: &mut marks[0..24],
-        entries: &mut entries[0..48],
-    };
-    let month = open(FIGURES, &agents[0..2], &mut contracts[0..64], &mut right)?;
-    drop(right);
-    marks[0] = 1;
-    if let Some(damage) = damage {
-        damage_accounts(&mut accounts, damage);
-        damage_entries(&mut entries, damage);
-        damage_rest(&mut agents, &mut marks, damage);
-    }
+/// Withdraws an hour in a book that is open.
+pub(crate) fn withdraw_on(memory: &mut Memory, month: &OpenMonth, hour: u32) -> Told {
+    let Memory {
+        agents,
+        accounts,
+        contracts,
+        marks,
+        entries,
+    } = memory;
     let pool = Pool {
-        agents: &agents[0..sizes.agents.min(3)],
+        agents: &agents[0..RIGHT.agents.min(6)],
+        contracts: &contracts[0..RIGHT.contracts.min(65)],
+    };
+    let mut ledger = ledger_of(accounts, marks, entries, RIGHT);
+    withdraw(month, &Product, hour, &pool, &mut ledger)?;
+    Ok(())
+}
+
+/// The provisional statement of an agent.
+pub(crate) fn state_on(
+    memory: &mut Memory,
+    month: &OpenMonth,
+    agent: u32,
+) -> Result<Statement, Refusal> {
+    let Memory {
+        agents,
+        accounts,
+        contracts,
+        marks,
+        entries,
+    } = memory;
+    let pool = Pool {
+        agents: &agents[0..RIGHT.agents.min(6)],
+        contracts: &contracts[0..RIGHT.contracts.min(65)],
+    };
+    let ledger = ledger_of(accounts, marks, entries, RIGHT);
+    Ok(provisional(month, &Product, agent, &ledger.view(&pool))?)
+}
+
+/// Closes the month on so much of its memory.
+pub(crate) fn close_on(
+    memory: &mut Memory,
+    month: OpenMonth,
+    sizes: Sizes,
+) -> Result<ClosedMonth, (OpenMonth, BookFault)> {
+    let Memory {
+        agents,
+        accounts,
+        contracts,
+        marks,
+        entries,
+    } = memory;
+    let pool = Pool {
+        agents: &agents[0..sizes.agents.min(6)],
         contracts: &contracts[0..sizes.contracts.min(65)],
     };
-    let mut lent = Ledger {
-        accounts: &mut accounts[0..sizes.accounts.min(3)],
-        marks: &mut marks[0..sizes.marks.min(25)],
-        entries: &mut entries[0..sizes.entries.min(49)],
-    };
-    let said = call(&month, trial, &pool, &mut lent);
-    let _ = month.retire();
-    Ok(said?)
+    let mut ledger = ledger_of(accounts, marks, entries, sizes);
+    close(month, &Product, &pool, &mut ledger)
 }
 
-/// Opens a book on so much of the memory, and tells how the opening was answered.
-pub(crate) fn opened(sizes: Sizes) -> Told {
-    let nothing: Entry = Pair::neutral();
-    let agents = [GENERATOR, DISTRIBUTOR, DISTRIBUTOR];
-    let mut accounts = [nothing; 3];
-    let mut contracts: [Option<Contract>; 65] = [None; 65];
-    let mut marks = [0u8; 25];
-    let mut entries = [nothing; 49];
-    let mut lent = Ledger {
-        accounts: &mut accounts[0..sizes.accounts.min(3)],
-        marks: &mut marks[0..sizes.marks.min(25)],
-        entries: &mut entries[0..sizes.entries.min(49)],
-    };
-    let agents = &agents[0..sizes.agents.min(3)];
-    let contracts = &mut contracts[0..sizes.contracts.min(65)];
-    let month = open(FIGURES, agents, contracts, &mut lent)?;
-    let _ = month.retire();
-    Ok(())
-}
-
-/// Posts the last hour of the first day, and the first of each day, in which the first agent injects twice what the second withdraws.
-fn post_two_days(
-    month: &OpenMonth,
-    pool: &Pool<'_>,
-    ledger: &mut Ledger<'_>,
-) -> Result<(), BookFault> {
-    for (hour, withdrawn) in [(23, 20), (0, 1), (24, 300)] {
-        let injection = Line {
-            injected: 2 * withdrawn,
-            withdrawn: 0,
-            ..LINE
-        };
-        let withdrawal = Line {
-            injected: 0,
-            withdrawn,
-            ..LINE
-        };
-        post(
-            month,
-            hour,
-            50_000,
-            &[injection, withdrawal],
-            pool,
-            ledger,
-        )?;
+/// Closes the month on so much of its memory, and gives it up.
+pub(crate) fn close_and_retire(memory: &mut Memory, month: OpenMonth, sizes: Sizes) -> Told {
+    match close_on(memory, month, sizes) {
+        Ok(closed) => {
+            let _ = closed.retire();
+            Ok(())
+        }
+        Err((open, fault)) => {
+            let _ = open.retire();
+            Err(fault.into())
+        }
     }
-    Ok(())
 }
 
-/// The energies of an agent's day, in a book of two agents and two days.
-pub(crate) fn day_of(agent: u32, day: u32) -> Result<Energy, Refusal> {
-    let nothing: Entry = Pair::neutral();
-    let agents = [GENERATOR, DISTRIBUTOR];
-    let mut accounts = [nothing; 2];
-    let mut contracts: [Option<Contract>; 64] = [None; 64];
-    let mut marks = [0u8; 48];
-    let mut entries = [nothing; 96];
-    let mut ledger = Ledger {
-        accounts: &mut accounts,
-        marks: &mut marks,
-        entries: &mut entries,
-    };
-    let figures = MonthFigures { days: 2, ..FIGURES };
-    let month = open(figures, &agents, &mut contracts, &mut ledger)?;
+/// The final statement of an agent, on so much of the memory.
+pub(crate) fn state_finally_on(
+    memory: &mut Memory,
+    month: &ClosedMonth,
+    sizes: Sizes,
+    agent: u32,
+) -> Result<Statement, Refusal> {
+    let Memory {
+        agents,
+        accounts,
+        contracts,
+        marks,
+        entries,
+    } = memory;
     let pool = Pool {
-        agents: &agents,
-        contracts: &contracts,
+        agents: &agents[0..sizes.agents.min(6)],
+        contracts: &contracts[0..sizes.contracts.min(65)],
     };
-    let posted = post_two_days(&month, &pool, &mut ledger);
-    let total = day_total(&month, agent, day, &ledger.view(&pool));
-    let _ = month.retire();
-    posted?;
-    Ok(total?.second)
+    let ledger = ledger_of(accounts, marks, entries, sizes);
+    Ok(final_statement(month, &Product, agent, &ledger.view(&pool))?)
 }

@@ -1,11 +1,21 @@
-use crate::desk::{Damage, RIGHT, Refusal, Sizes, Told, Trial, day_of, opened, tried};
+use crate::days::day_of;
+use crate::desk::{ACCEPTED, BLOCK, RIGHT, Refusal, SHARE, Sizes, Told};
+use crate::trials::{Damage, Trial, opened, opened_over, tried};
 use book::{Agent, BookFault, LineFault};
+use forms::Contract;
 use std::test::Fail;
 use tally::Energy;
 
-const CALLS: [Trial; 4] = [Trial::Post, Trial::Withdraw, Trial::Statement, Trial::Day];
-
-const ACCEPTED: Told = Ok(());
+const CALLS: [Trial; 8] = [
+    Trial::Post,
+    Trial::Withdraw,
+    Trial::Enter,
+    Trial::Cancel,
+    Trial::Close,
+    Trial::Statement,
+    Trial::Final,
+    Trial::Day,
+];
 
 const WRONG_SIZE: Told = Err(Refusal {
     number: 1,
@@ -24,14 +34,14 @@ const STORED: Told = Err(Refusal {
 
 /// One place too few or too many of each part of the memory.
 const WRONG_SIZES: [Sizes; 10] = [
-    Sizes { agents: 1, ..RIGHT },
-    Sizes { agents: 3, ..RIGHT },
+    Sizes { agents: 4, ..RIGHT },
+    Sizes { agents: 6, ..RIGHT },
     Sizes {
-        accounts: 1,
+        accounts: 4,
         ..RIGHT
     },
     Sizes {
-        accounts: 3,
+        accounts: 6,
         ..RIGHT
     },
     Sizes {
@@ -45,11 +55,11 @@ const WRONG_SIZES: [Sizes; 10] = [
     Sizes { marks: 23, ..RIGHT },
     Sizes { marks: 25, ..RIGHT },
     Sizes {
-        entries: 47,
+        entries: 119,
         ..RIGHT
     },
     Sizes {
-        entries: 49,
+        entries: 121,
         ..RIGHT
     },
 ];
@@ -72,60 +82,62 @@ fn memory_of_another_size_is_refused(rt: HostRuntime) {
     }
 }
 
+/// Figures just outside their limits.
+const OUTSIDE: [Damage; 11] = [
+    Damage::LastAgent(Agent {
+        role: 0,
+        capacity: 0,
+        power: 0,
+    }),
+    Damage::LastAgent(Agent {
+        role: 4,
+        capacity: 0,
+        power: 0,
+    }),
+    Damage::LastAgent(Agent {
+        role: 2,
+        capacity: 4_000_001,
+        power: 0,
+    }),
+    Damage::LastAgent(Agent {
+        role: 1,
+        capacity: 0,
+        power: 1_000_001,
+    }),
+    Damage::LastAgent(Agent {
+        role: 3,
+        capacity: 0,
+        power: 1,
+    }),
+    Damage::LastMark(2),
+    Damage::LastEntry {
+        injected: 4_000_001,
+        withdrawn: 0,
+    },
+    Damage::LastEntry {
+        injected: 0,
+        withdrawn: 4_000_001,
+    },
+    Damage::Accounts {
+        injected: 2_976_000_001,
+        first: 0,
+        second: 0,
+    },
+    Damage::Accounts {
+        injected: 0,
+        first: 2_976_000_001,
+        second: 0,
+    },
+    Damage::Accounts {
+        injected: 0,
+        first: 2_976_000_000,
+        second: 1,
+    },
+];
+
 #[test]
 fn stored_figures_outside_their_limits_are_refused(rt: HostRuntime) {
-    let damages = [
-        Damage::SecondAgent(Agent {
-            role: 0,
-            capacity: 0,
-            power: 0,
-        }),
-        Damage::SecondAgent(Agent {
-            role: 4,
-            capacity: 0,
-            power: 0,
-        }),
-        Damage::SecondAgent(Agent {
-            role: 2,
-            capacity: 4_000_001,
-            power: 0,
-        }),
-        Damage::SecondAgent(Agent {
-            role: 1,
-            capacity: 0,
-            power: 1_000_001,
-        }),
-        Damage::SecondAgent(Agent {
-            role: 3,
-            capacity: 0,
-            power: 1,
-        }),
-        Damage::LastMark(2),
-        Damage::LastEntry {
-            injected: 4_000_001,
-            withdrawn: 0,
-        },
-        Damage::LastEntry {
-            injected: 0,
-            withdrawn: 4_000_001,
-        },
-        Damage::Accounts {
-            injected: 2_976_000_001,
-            first: 0,
-            second: 0,
-        },
-        Damage::Accounts {
-            injected: 0,
-            first: 2_976_000_001,
-            second: 0,
-        },
-        Damage::Accounts {
-            injected: 0,
-            first: 2_976_000_000,
-            second: 1,
-        },
-    ];
-    for damage in damages {
+    for damage in OUTSIDE {
         for trial in CALLS {
             assert_eq!(rt; tried(RIGHT, Some(damage), trial), STORED);
         }
@@ -135,12 +147,12 @@ fn stored_figures_outside_their_limits_are_refused(rt: HostRuntime) {
 #[test]
 fn stored_figures_at_their_limits_are_accepted(rt: HostRuntime) {
     let damages = [
-        Damage::SecondAgent(Agent {
+        Damage::LastAgent(Agent {
             role: 1,
             capacity: 4_000_000,
             power: 1_000_000,
         }),
-        Damage::SecondAgent(Agent {
+        Damage::LastAgent(Agent {
             role: 3,
             capacity: 4_000_000,
             power: 0,
@@ -163,6 +175,82 @@ fn stored_figures_at_their_limits_are_accepted(rt: HostRuntime) {
     }
 }
 
+/// Contracts that may not stand.
+const WRONG_CONTRACTS: [Contract; 13] = [
+    Contract { seller: 0, ..BLOCK },
+    Contract { seller: 6, ..BLOCK },
+    Contract { buyer: 0, ..BLOCK },
+    Contract { buyer: 6, ..BLOCK },
+    Contract { buyer: 5, ..BLOCK },
+    Contract { first: 8, ..BLOCK },
+    Contract { last: 24, ..BLOCK },
+    Contract {
+        price: 2_000_001,
+        ..BLOCK
+    },
+    Contract { kind: 3, ..BLOCK },
+    Contract { margin: 1, ..BLOCK },
+    Contract {
+        seller: 2,
+        buyer: 3,
+        peak: 101,
+        ..BLOCK
+    },
+    Contract { base: 1, ..SHARE },
+    Contract { buyer: 3, ..SHARE },
+];
+
+#[test]
+fn stored_contracts_that_may_not_stand_are_refused(rt: HostRuntime) {
+    for contract in WRONG_CONTRACTS {
+        for trial in CALLS {
+            assert_eq!(rt;
+                tried(RIGHT, Some(Damage::LastContract(contract)), trial),
+                STORED
+            );
+        }
+    }
+}
+
+#[test]
+fn an_opening_takes_any_stored_contract_and_mark(rt: HostRuntime) {
+    assert_eq!(rt; opened_over(Damage::LastMark(2)), ACCEPTED);
+    for contract in WRONG_CONTRACTS {
+        assert_eq!(rt; opened_over(Damage::LastContract(contract)), ACCEPTED);
+    }
+}
+
+#[test]
+fn stored_contracts_that_may_stand_are_accepted(rt: HostRuntime) {
+    let contracts = [
+        Contract {
+            first: 0,
+            last: 23,
+            price: 2_000_000,
+            peak: 4_000_000,
+            ..BLOCK
+        },
+        Contract {
+            seller: 2,
+            buyer: 3,
+            ..BLOCK
+        },
+        Contract {
+            buyer: 4,
+            margin: 4_000_000,
+            ..SHARE
+        },
+    ];
+    for contract in contracts {
+        for trial in CALLS {
+            assert_eq!(rt;
+                tried(RIGHT, Some(Damage::LastContract(contract)), trial),
+                ACCEPTED
+            );
+        }
+    }
+}
+
 #[test]
 fn a_wrong_size_is_answered_before_a_stored_figure(rt: HostRuntime) {
     for trial in CALLS {
@@ -180,14 +268,15 @@ fn a_wrong_size_is_answered_before_a_stored_figure(rt: HostRuntime) {
 // An agent and a day, and what the day comes to.
 #[test]
 fn days_are_totals_of_their_own_hours(rt: HostRuntime) {
-    let cases = [
-        (1, 1, 42, 0),
-        (2, 1, 0, 21),
-        (1, 2, 600, 0),
-        (2, 2, 0, 300),
-    ];
+    let cases = [(1, 1, 42, 0), (2, 1, 0, 21), (1, 2, 600, 0), (2, 2, 0, 300)];
     for (agent, day, injected, withdrawn) in cases {
-        assert_eq!(rt; day_of(agent, day), Ok(Energy { injected, withdrawn }));
+        assert_eq!(rt;
+            day_of(agent, day),
+            Ok(Energy {
+                injected,
+                withdrawn
+            })
+        );
     }
 }
 

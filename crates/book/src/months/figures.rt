@@ -65,8 +65,8 @@ impl OpenMonth {
     pub fn retire(self) -> MonthFigures
         ensures { result ≡ figures_of self }
     {
-        let OpenMonth { month } = self;
-        month.figures()
+        let OpenMonth { month: retired } = self;
+        retired.figures()
     }
 
     /// The same month, closed: for an accepted closing alone.
@@ -90,7 +90,7 @@ impl ClosedMonth {
     pub fn retire(self) -> MonthFigures
         ensures { result ≡ closed_figures_of self }
     {
-        let ClosedMonth { month } = self;
-        month.figures()
+        let ClosedMonth { month: retired } = self;
+        retired.figures()
     }
 }

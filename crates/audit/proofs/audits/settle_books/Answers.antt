@@ -9,6 +9,8 @@ use Rattle.runs.specs.Reading.{request_of, Answer, reply_of}
 use Rattle.runs.specs.Runs.{Kept, answers_to, all_done, kept_after, balance_at, statements_in}
 use Rattle.runs.specs.Told.{stands_told}
 use Rattle.audit.specs.Audits.{asked_again}
+use Rattle.runs.proofs.Books.{kept_holds}
+use Rattle.audit.specs.Compared.{strangers_in, strangers_same}
 use Rattle.audit.specs.Only.{only_told, residue_in, StandsMeasured}
 use Rattle.audit.specs.Settlings.{begun, ended}
 use Rattle.audit.proofs.Audited.{done_told, book_same, opens_after, begun_after, told_measured, residue_is, only_is, law_holds}
@@ -135,3 +137,22 @@ returns-clause-repeated g c =
     c.settle_standing-third.ensures.done
     ∙ (λ t. all_done (answers_to true form f (asked t) (anew t)))
     ∙ done_told (answers_to true form f (asked_again form f m.agents requests) (begun m))
+
+pub returns-clause-compared : goal.returns-clause-compared
+returns-clause-compared g c =
+    let form = g.F.ContractForm.meaning c.args.form.now in
+    let keeps = g.met.F.ContractForm.keeps c.args.form.now in
+    let f = c.args.figures in
+    let m = memory_with c.args.agents.now c.args.contracts.now c.args.ledger.now in
+    let opens = c.requires.opens in
+    let requests = map request_of c.args.calls.now in
+    let places =
+    c.copy_from_slice.ensures.after ∙ ap (λ (memory : Memory). memory.contracts) c.settle_calls-first.ensures.came.memory
+    ∙ (kept_holds form keeps f m opens true requests).memory.contracts in
+    record {
+      heard = c.count_heard.ensures;
+      alike = c.count_alike.ensures;
+      strangers = c.count_strangers.ensures ∙ ap (strangers_in f.agents) places;
+      strangers_same = c.count_strangers_same.ensures ∙ ap (λ stood. strangers_same f.agents stood c.settle_calls-first.new.statements c.settle_calls-second.new.statements) places;
+      same = c.count_same.ensures;
+    }

@@ -1,0 +1,121 @@
+//! What the audit compares: answers of the first two books, and statements of all three.
+ghost use Rattle.std.specs.Prelude.{◌≡◌, ◌<◌, ◌≤◌};
+ghost use Rattle.standing.specs.Standing.{is_party};
+ghost use Rattle.runs.specs.Reading.{reply_of};
+ghost use Rattle.audit.specs.Compared.{same_manner, heard_in, alike_in, same_lines, same_statement, same_in, is_stranger, strangers_in, strangers_same};
+
+use book::Statement;
+use forms::Contract;
+use runs::{Answer, Call, Told, is_done};
+use tally::Money;
+
+/// Whether two calls were answered alike: both done, both refused with the same number and place, or both skipped.
+fn is_alike(one: &Answer, other: &Answer) -> bool
+    ensures { result ≡ same_manner (reply_of one.now) (reply_of other.now) }
+{
+    match one {
+        Ok(Told::Accepted | Told::Stated(_)) => is_done(other),
+        Ok(Told::Skipped) => matches!(other, Ok(Told::Skipped)),
+        Err(fault) => match other {
+            Err(another) => fault.number() == another.number() && fault.place() == another.place(),
+            Ok(_) => false,
+        },
+    }
+}
+
+/// Whether two statements have the same lines.
+fn are_lines_same(one: &Money, other: &Money) -> bool
+    ensures { result ≡ same_lines one.now other.now }
+{
+    one.market == other.market
+        && one.contract == other.contract
+        && one.overcost == other.overcost
+        && one.power == other.power
+}
+
+/// Whether two statements are the same.
+fn is_same(one: &Statement, other: &Statement) -> bool
+    ensures { result ≡ same_statement one.now other.now }
+{
+    are_lines_same(&one.lines, &other.lines)
+        && one.balance == other.balance
+        && one.energy.injected == other.energy.injected
+        && one.energy.withdrawn == other.energy.withdrawn
+        && one.peak.kwh == other.peak.kwh
+        && one.peak.hour == other.peak.hour
+}
+
+/// Whether the agent at place `index` is a party to what is in a contract place.
+fn is_party(index: u32, place: &Option<Contract>) -> bool
+    requires { index < 64 }
+    ensures { result ≡ is_party index place.now }
+{
+    match place {
+        Some(contract) => contract.seller == index + 1 || contract.buyer == index + 1,
+        None => false,
+    }
+}
+
+/// Whether the agent at place `index` is party to no standing contract.
+fn is_stranger(index: u32, places: &[Option<Contract>]) -> bool
+    requires { index < 64 }
+    ensures { result ≡ is_stranger places.now index }
+{
+    places.iter().all(|place| !is_party(index, place))
+}
+
+/// How many calls both books heard.
+pub(crate) fn count_heard(calls: &[Call]) -> usize
+    ensures { result ≡ heard_in calls.now }
+{
+    calls
+        .iter()
+        .filter(|call| !call.is_about_contracts())
+        .count()
+}
+
+/// How many calls both books heard and answered alike.
+pub(crate) fn count_alike(calls: &[Call], answers: &[Answer], without: &[Answer]) -> usize
+    ensures { result ≡ alike_in calls.now answers.now without.now }
+{
+    let heard = calls.iter().zip(answers.iter().zip(without));
+    heard
+        .filter(|(call, (one, other))| !call.is_about_contracts() && is_alike(one, other))
+        .count()
+}
+
+/// How many agents have the same statement in two books.
+pub(crate) fn count_same(one: &[Statement], other: &[Statement]) -> usize
+    ensures { result ≡ same_in one.now other.now }
+{
+    one.iter()
+        .zip(other)
+        .filter(|(one, other)| is_same(one, other))
+        .count()
+}
+
+/// How many of so many agents are party to no standing contract.
+pub(crate) fn count_strangers(agents: u32, places: &[Option<Contract>]) -> usize
+    requires { agents ≤ 64 }
+    ensures { result ≡ strangers_in agents places.now }
+{
+    (0..agents)
+        .filter(|index| is_stranger(*index, places))
+        .count()
+}
+
+/// How many of those have the same statement in two books.
+pub(crate) fn count_strangers_same(
+    agents: u32,
+    places: &[Option<Contract>],
+    one: &[Statement],
+    other: &[Statement],
+) -> usize
+    requires { agents ≤ 64 }
+    ensures { result ≡ strangers_same agents places.now one.now other.now }
+{
+    (0..agents)
+        .zip(one.iter().zip(other))
+        .filter(|(index, (one, other))| is_stranger(*index, places) && is_same(one, other))
+        .count()
+}

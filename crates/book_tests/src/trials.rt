@@ -1,0 +1,224 @@
+//! One call on memory of a wrong size, or with a damaged figure.
+use crate::desk::{
+    BLOCK, IDLE, Memory, RIGHT, Sizes, Told, close_and_retire, close_on, energy_alone, ledger_of,
+    open_on, state_finally_on,
+};
+use crate::slices::post_in;
+use book::{
+    Agent, BookFault, Ledger, Line, OpenMonth, Pool, cancel, day_total, enter, provisional,
+    withdraw,
+};
+use forms::{Contract, Product};
+
+/// A stored figure, changed between the opening and the call.
+// Kept as an enum: the cases are a table that each call goes through, and a list of closures would have to hold boxed ones.
+#[derive(Clone, Copy)]
+pub(crate) enum Damage {
+    LastAgent(Agent),
+    LastContract(Contract),
+    LastMark(u8),
+    LastEntry {
+        injected: u64,
+        withdrawn: u64,
+    },
+    Accounts {
+        injected: u64,
+        first: u64,
+        second: u64,
+    },
+}
+
+/// The call that is tried.
+// Kept as an enum: a list of calls would have to hold boxed closures, which is no plainer.
+#[derive(Clone, Copy, PartialEq, Eq)]
+pub(crate) enum Trial {
+    Post,
+    Withdraw,
+    Enter,
+    Cancel,
+    Close,
+    Statement,
+    Final,
+    Day,
+}
+
+/// A line of ten kilowatt-hours in and out.
+const LINE: Line = Line {
+    injected: 10,
+    withdrawn: 10,
+    ..IDLE
+};
+
+impl Memory {
+    /// What the call needs: a contract to cancel, an hour to withdraw, and a month to close.
+    fn prepare(&mut self, trial: Trial) {
+        self.contracts[0] = Some(BLOCK);
+        self.marks[0] = 1;
+        if trial == Trial::Close || trial == Trial::Final {
+            self.marks.fill(1);
+            self.accounts[1] = energy_alone(0, 1);
+        }
+    }
+
+    /// Changes a stored figure, if any is named.
+    fn damage(&mut self, damage: Option<Damage>) {
+        match damage {
+            None => {}
+            Some(Damage::LastAgent(agent)) => self.agents[4] = agent,
+            Some(Damage::LastContract(contract)) => self.contracts[63] = Some(contract),
+            Some(Damage::LastMark(mark)) => self.marks[23] = mark,
+            Some(
+                Damage::LastEntry {
+                    injected,
+                    withdrawn,
+                },
+            ) => self.entries[119] = energy_alone(injected, withdrawn),
+            Some(
+                Damage::Accounts {
+                    injected,
+                    first,
+                    second,
+                },
+            ) => {
+                self.accounts[0] = energy_alone(injected, first);
+                self.accounts[1] = energy_alone(0, second);
+            }
+        }
+    }
+}
+
+/// A call that enters a contract, or cancels one.
+fn call_on_contracts(
+    month: &OpenMonth,
+    trial: Trial,
+    memory: &mut Memory,
+    sizes: Sizes,
+) -> Result<(), BookFault> {
+    let Memory {
+        agents,
+        accounts,
+        contracts,
+        marks,
+        entries,
+    } = memory;
+    let ledger = ledger_of(accounts, marks, entries, sizes);
+    let agents = &agents[0..sizes.agents.min(6)];
+    let contracts = &mut contracts[0..sizes.contracts.min(65)];
+    match trial {
+        Trial::Cancel => cancel(month, &Product, 1, agents, contracts, &ledger),
+        _ => enter(month, &Product, 2, BLOCK, agents, contracts, &ledger),
+    }
+}
+
+/// A call that writes hours, or looks into an open month.
+fn call_on_hours(
+    month: &OpenMonth,
+    trial: Trial,
+    pool: &Pool<'_>,
+    ledger: &mut Ledger<'_>,
+) -> Result<(), BookFault> {
+    match trial {
+        Trial::Withdraw => withdraw(month, &Product, 0, pool, ledger),
+        Trial::Statement => {
+            provisional(month, &Product, 5, &ledger.view(pool))?;
+            Ok(())
+        }
+        Trial::Day => {
+            day_total(month, &Product, 5, 1, &ledger.view(pool))?;
+            Ok(())
+        }
+        _ => post_in(
+            month,
+            &Product,
+            23,
+            50_000,
+            &[LINE; 5],
+            pool.agents,
+            ledger.accounts,
+            pool.contracts,
+            ledger.marks,
+            ledger.entries,
+        ),
+    }
+}
+
+/// A call on an open month.
+fn call(
+    month: &OpenMonth,
+    trial: Trial,
+    memory: &mut Memory,
+    sizes: Sizes,
+) -> Result<(), BookFault> {
+    if trial == Trial::Enter || trial == Trial::Cancel {
+        return call_on_contracts(month, trial, memory, sizes);
+    }
+    let Memory {
+        agents,
+        accounts,
+        contracts,
+        marks,
+        entries,
+    } = memory;
+    let pool = Pool {
+        agents: &agents[0..sizes.agents.min(6)],
+        contracts: &contracts[0..sizes.contracts.min(65)],
+    };
+    let mut ledger = ledger_of(accounts, marks, entries, sizes);
+    call_on_hours(month, trial, &pool, &mut ledger)
+}
+
+/// Closes the month on memory that is right, damages it, and asks for a final statement on so much of it.
+fn final_tried(
+    month: OpenMonth,
+    memory: &mut Memory,
+    sizes: Sizes,
+    damage: Option<Damage>,
+) -> Told {
+    match close_on(memory, month, RIGHT) {
+        Ok(closed) => {
+            memory.damage(damage);
+            let said = state_finally_on(memory, &closed, sizes, 5);
+            let _ = closed.retire();
+            said?;
+            Ok(())
+        }
+        Err((open, fault)) => {
+            let _ = open.retire();
+            Err(fault.into())
+        }
+    }
+}
+
+/// Opens a book, damages its memory, lends so much of it to a call, and tells how the call was answered.
+pub(crate) fn tried(sizes: Sizes, damage: Option<Damage>, trial: Trial) -> Told {
+    let mut memory = Memory::new();
+    let month = open_on(&mut memory, RIGHT)?;
+    memory.prepare(trial);
+    if trial == Trial::Final {
+        return final_tried(month, &mut memory, sizes, damage);
+    }
+    memory.damage(damage);
+    if trial == Trial::Close {
+        return close_and_retire(&mut memory, month, sizes);
+    }
+    let said = call(&month, trial, &mut memory, sizes);
+    let _ = month.retire();
+    Ok(said?)
+}
+
+/// Opens a book on so much of the memory, and tells how the opening was answered.
+pub(crate) fn opened(sizes: Sizes) -> Told {
+    let mut memory = Memory::new();
+    let month = open_on(&mut memory, sizes)?;
+    let _ = month.retire();
+    Ok(())
+}
+
+/// Opens a book on memory that is damaged, and tells how the opening was answered.
+pub(crate) fn opened_over(damage: Damage) -> Told {
+    let mut memory = Memory::new();
+    memory.damage(Some(damage));
+    let month = open_on(&mut memory, RIGHT)?;
+    let _ = month.retire();
+    Ok(())
+}

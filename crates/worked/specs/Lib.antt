@@ -1,0 +1,2 @@
+pub mod Month
+pub mod Figures
