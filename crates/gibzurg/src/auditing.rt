@@ -34,8 +34,8 @@ impl Desk for Listener {
             Some(record) => record.opening.figures.agents,
             None => 0,
         };
-        for agent in 1..=count {
-            self.call(line, Call::Statement(agent))?;
+        for index in 0..count {
+            self.call(line, Call::Statement(index + 1))?;
         }
         Ok(())
     }

@@ -27,7 +27,10 @@ impl fmt::Display for Books {
 #[derive(Clone, Copy, Debug, PartialEq)]
 pub(crate) enum Difference {
     /// The answer to a call of this journal line, in the first and the second book.
-    Answer { line: usize, heading: Heading },
+    Answer {
+        line: usize,
+        heading: Heading,
+    },
     /// A line of an agent's statement.
     Statement {
         books: Books,
@@ -74,18 +77,15 @@ pub(crate) fn is_alike(one: &Answer, other: &Answer) -> bool {
         (Ok(Told::Skipped), Ok(Told::Skipped)) => true,
         (Ok(Told::Skipped), _) | (_, Ok(Told::Skipped)) => false,
         (Ok(_), Ok(_)) => true,
-        (Err(fault), Err(another)) =>
-            fault.number() == another.number() && fault.place() == another.place(),
+        (Err(fault), Err(another)) => fault.number() == another.number()
+            && fault.place() == another.place(),
         _ => false,
     }
 }
 
 /// Whether an agent is party to none of the contracts.
 fn is_stranger(agent: u32, contracts: &[Option<Contract>]) -> bool {
-    !contracts
-        .iter()
-        .flatten()
-        .any(|contract| contract.seller == agent || contract.buyer == agent)
+    !contracts.iter().flatten().any(|contract| contract.seller == agent || contract.buyer == agent)
 }
 
 /// What differs between the answers of the first and the second book, of the calls that both heard.

@@ -96,8 +96,9 @@ impl Clerk<'_> {
     /// Prints the statement that was told of an agent.
     fn show(&self, agent: u32, told: Told) -> Result<(), Trouble> {
         match (&self.book, told) {
-            (Some(ledger), Told::Stated(statement)) =>
-                Ok(self.rt.println(ledger.sheet(agent, statement))?),
+            (Some(ledger), Told::Stated(statement)) => Ok(
+                self.rt.println(ledger.sheet(agent, statement))?,
+            ),
             _ => Ok(()),
         }
     }
