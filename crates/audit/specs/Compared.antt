@@ -12,7 +12,7 @@ use Rattle.standing.specs.Requests.{about_contracts}
 use Rattle.standing.specs.Standing.{party_to}
 use Rattle.standing.specs.Worked.{Reply, accepted, stated, refused, skipped}
 use Rattle.runs.specs.declared.calls.Call.{Call}
-use Rattle.audit.specs.declared.audits.Report.{Report}
+use Rattle.audit.specs.declared.comparisons.Comparison.{Comparison}
 use Rattle.runs.specs.Reading.{request_of, Answer, reply_of}
 
 -- two requests were answered alike: both done, both refused with the same number and place, or both skipped
@@ -72,11 +72,11 @@ abbrev pub strangers_same : (count : ℕ) → List (Option Contract) → (one ot
 strangers_same count places one other =
     length (filter (λ agent. is_stranger places agent.0 && same_statement agent.1.0 agent.1.1) (zip (range_with_len 0 count) (zip one other)))
 
--- what an audit of so many agents reports of the calls, of what the first two books answered, of the contracts standing in the first, and of the
+-- how an audit of so many agents compares the calls, of what the first two books answered, of the contracts standing in the first, and of the
 -- statements of all three
-pub record Compared (count : ℕ) (calls : List Call) (answers without : List Answer) (places : List (Option Contract)) (first second third : List Statement) (report : Report) : Type 0 where
-  pub heard : report.heard ≡ heard_in calls
-  pub alike : report.alike ≡ alike_in calls answers without
-  pub strangers : report.strangers ≡ strangers_in count places
-  pub strangers_same : report.strangers_same ≡ strangers_same count places first second
-  pub same : report.same ≡ same_in first third
+pub record Compared (count : ℕ) (calls : List Call) (answers without : List Answer) (places : List (Option Contract)) (first second third : List Statement) (found : Comparison) : Type 0 where
+  pub heard : found.heard ≡ heard_in calls
+  pub alike : found.alike ≡ alike_in calls answers without
+  pub strangers : found.strangers ≡ strangers_in count places
+  pub strangers_same : found.strangers_same ≡ strangers_same count places first second
+  pub same : found.same ≡ same_in first third

@@ -11,11 +11,9 @@ ghost use Rattle.audit.specs.Audits.{lent_with, places_fit, SamePlaces, audit_fa
 ghost use Rattle.audit.specs.Compared.{Compared};
 ghost use Rattle.audit.specs.Settlings.{ended};
 
-use crate::comparisons::{
-    count_alike, count_heard, count_same, count_strangers, count_strangers_same,
-};
+use crate::comparisons::{Comparison, compare};
 use crate::residues::standing_residue;
-use crate::settling::{settle_calls, settle_standing};
+use crate::settling::{Case, settle_calls, settle_standing};
 use book::{Agent, BookFault, Ledger, MonthFigures, Pool, Statement};
 use forms::{Contract, ContractForm};
 use runs::{Answer, Call};
@@ -43,14 +41,7 @@ pub struct Report {
     pub residue: i64,
     /// Whether the third did all that it was asked.
     pub repeated: bool,
-    /// How many calls the first two both heard, and how many of those were answered alike.
-    pub heard: usize,
-    pub alike: usize,
-    /// How many agents are party to no contract standing in the first, and how many of those have the same statement in the first and the second.
-    pub strangers: usize,
-    pub strangers_same: usize,
-    /// How many agents have the same statement in the first and the third.
-    pub same: usize,
+    pub comparison: Comparison,
 }
 
 impl Findings<'_> {
@@ -68,10 +59,7 @@ impl Findings<'_> {
 
 /// Settles the three books of a month that can be opened.
 fn settle_books<F: ContractForm>(
-    figures: MonthFigures,
-    form: &F,
-    calls: &[Call],
-    agents: &[Agent],
+    case: &Case<'_, F>,
     contracts: &mut [Option<Contract>],
     ledger: &mut Ledger<'_>,
     answers: &mut [Answer],
@@ -80,46 +68,48 @@ fn settle_books<F: ContractForm>(
     statements_without: &mut [Statement],
     statements_again: &mut [Statement],
 ) -> Report
-    requires opens { open_fault figures (memory_with agents.now contracts.old ledger.old) ≡ None }
-    requires answers_long { length answers.old ≡ length calls.now }
-    requires answers_without_long { length answers_without.old ≡ length calls.now }
-    requires statements_long { length statements.old ≡ length agents.now }
-    requires statements_without_long { length statements_without.old ≡ length agents.now }
-    requires statements_again_long { length statements_again.old ≡ length agents.now }
+    requires opens { open_fault case.now.figures (memory_with case.now.agents.now contracts.old ledger.old) ≡ None }
+    requires answers_long { length answers.old ≡ length case.now.calls.now }
+    requires answers_without_long { length answers_without.old ≡ length case.now.calls.now }
+    requires statements_long { length statements.old ≡ length case.now.agents.now }
+    requires statements_without_long { length statements_without.old ≡ length case.now.agents.now }
+    requires statements_again_long { length statements_again.old ≡ length case.now.agents.now }
     ensures lent { SameLoan ledger.old ledger.new }
-    ensures memory { memory_with agents.now contracts.new ledger.new ≡ (ended true (F.meaning form.now) figures (asked_again (F.meaning form.now) figures agents.now (map request_of calls.now)) (memory_with agents.now contracts.old ledger.old)).memory }
-    ensures settled { Settled (F.meaning form.now) (opening_of figures.days figures.weekday agents.now) (map request_of calls.now) (book_of (map reply_of answers.new) statements.new result.balances) (book_of (told_without (map request_of calls.now) (map reply_of answers_without.new)) statements_without.new result.balances_without) (book_of (told_again (F.meaning form.now) figures (map request_of calls.now) (memory_with agents.now contracts.old ledger.old)) statements_again.new result.balances_again) result.residue }
-    ensures compared { Compared figures.agents calls.now answers.new answers_without.new (places_after (F.meaning form.now) figures agents.now (map request_of calls.now)) statements.new statements_without.new statements_again.new result }
-    ensures repeated { result.repeated ≡ list_all is_done (told_again (F.meaning form.now) figures (map request_of calls.now) (memory_with agents.now contracts.old ledger.old)) }
+    ensures memory { memory_with case.now.agents.now contracts.new ledger.new ≡ (ended true (F.meaning case.now.form.now) case.now.figures (asked_again (F.meaning case.now.form.now) case.now.figures case.now.agents.now (map request_of case.now.calls.now)) (memory_with case.now.agents.now contracts.old ledger.old)).memory }
+    ensures settled { Settled (F.meaning case.now.form.now) (opening_of case.now.figures.days case.now.figures.weekday case.now.agents.now) (map request_of case.now.calls.now) (book_of (map reply_of answers.new) statements.new result.balances) (book_of (told_without (map request_of case.now.calls.now) (map reply_of answers_without.new)) statements_without.new result.balances_without) (book_of (told_again (F.meaning case.now.form.now) case.now.figures (map request_of case.now.calls.now) (memory_with case.now.agents.now contracts.old ledger.old)) statements_again.new result.balances_again) result.residue }
+    ensures compared { Compared case.now.figures.agents case.now.calls.now answers.new answers_without.new (places_after (F.meaning case.now.form.now) case.now.figures case.now.agents.now (map request_of case.now.calls.now)) statements.new statements_without.new statements_again.new result.comparison }
+    ensures repeated { result.repeated ≡ list_all is_done (told_again (F.meaning case.now.form.now) case.now.figures (map request_of case.now.calls.now) (memory_with case.now.agents.now contracts.old ledger.old)) }
 {
-    let first = settle_calls(
-        true, figures, form, calls, agents, contracts, ledger, answers, statements,
-    );
-    let residue = standing_residue(24 * figures.days, calls, answers);
+    let first = settle_calls(true, case, contracts, ledger, answers, statements);
+    let residue = standing_residue(24 * case.figures.days, case.calls, answers);
     // Kept as an array: the library allocates nothing.
     let mut places = [None; 64];
     places.copy_from_slice(contracts);
     let second = settle_calls(
         false,
-        figures,
-        form,
-        calls,
-        agents,
+        case,
         contracts,
         ledger,
         answers_without,
         statements_without,
     );
     let third = settle_standing(
-        figures,
-        form,
-        calls,
+        case,
         answers,
         &places,
         first.closed,
-        agents,
         contracts,
         ledger,
+        statements_again,
+    );
+    let comparison = compare(
+        case.calls,
+        answers,
+        answers_without,
+        case.figures.agents,
+        &places,
+        statements,
+        statements_without,
         statements_again,
     );
     Report {
@@ -128,16 +118,7 @@ fn settle_books<F: ContractForm>(
         balances_again: third.settlement.balances,
         residue,
         repeated: third.done,
-        heard: count_heard(calls),
-        alike: count_alike(calls, answers, answers_without),
-        strangers: count_strangers(figures.agents, &places),
-        strangers_same: count_strangers_same(
-            figures.agents,
-            &places,
-            statements,
-            statements_without,
-        ),
-        same: count_same(statements, statements_again),
+        comparison,
     }
 }
 
@@ -159,7 +140,7 @@ pub fn audit<F: ContractForm>(
     ensures untouched { OnErr result (lent_with (memory_with agents.now contracts.new ledger.new) findings.new ≡ lent_with (memory_with agents.now contracts.old ledger.old) findings.old) }
     ensures memory { OnOk result (memory_with agents.now contracts.new ledger.new ≡ (ended true (F.meaning form.now) figures (asked_again (F.meaning form.now) figures agents.now (map request_of calls.now)) (memory_with agents.now contracts.old ledger.old)).memory) }
     ensures settled { IfOk result (λ report. Settled (F.meaning form.now) (opening_of figures.days figures.weekday agents.now) (map request_of calls.now) (book_of (map reply_of findings.new.answers.now) findings.new.statements.now report.balances) (book_of (told_without (map request_of calls.now) (map reply_of findings.new.answers_without.now)) findings.new.statements_without.now report.balances_without) (book_of (told_again (F.meaning form.now) figures (map request_of calls.now) (memory_with agents.now contracts.old ledger.old)) findings.new.statements_again.now report.balances_again) report.residue) }
-    ensures compared { IfOk result (λ report. Compared figures.agents calls.now findings.new.answers.now findings.new.answers_without.now (places_after (F.meaning form.now) figures agents.now (map request_of calls.now)) findings.new.statements.now findings.new.statements_without.now findings.new.statements_again.now report) }
+    ensures compared { IfOk result (λ report. Compared figures.agents calls.now findings.new.answers.now findings.new.answers_without.now (places_after (F.meaning form.now) figures agents.now (map request_of calls.now)) findings.new.statements.now findings.new.statements_without.now findings.new.statements_again.now report.comparison) }
     ensures repeated { IfOk result (λ report. report.repeated ≡ list_all is_done (told_again (F.meaning form.now) figures (map request_of calls.now) (memory_with agents.now contracts.old ledger.old))) }
 {
     if !findings.fits(calls.len(), agents.len()) {
@@ -167,11 +148,14 @@ pub fn audit<F: ContractForm>(
     }
     let pool = Pool { agents, contracts };
     ledger.view(&pool).check_opening(figures)?;
-    Ok(settle_books(
+    let case = Case {
         figures,
         form,
-        calls,
         agents,
+        calls,
+    };
+    Ok(settle_books(
+        &case,
         contracts,
         ledger,
         findings.answers,

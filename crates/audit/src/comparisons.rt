@@ -2,12 +2,25 @@
 ghost use Rattle.std.specs.Prelude.{◌≡◌, ◌<◌, ◌≤◌};
 ghost use Rattle.standing.specs.Standing.{is_party};
 ghost use Rattle.runs.specs.Reading.{reply_of};
-ghost use Rattle.audit.specs.Compared.{same_manner, heard_in, alike_in, same_lines, same_statement, same_in, is_stranger, strangers_in, strangers_same};
+ghost use Rattle.audit.specs.Compared.{same_manner, heard_in, alike_in, same_lines, same_statement, same_in, is_stranger, strangers_in, strangers_same, Compared};
 
 use book::Statement;
 use forms::Contract;
 use runs::{Answer, Call, Told, is_done};
 use tally::Money;
+
+/// How the three books of an audit compare.
+#[derive(Clone, Copy, PartialEq, Eq, Debug)]
+pub struct Comparison {
+    /// How many calls the first two both heard, and how many of those were answered alike.
+    pub heard: usize,
+    pub alike: usize,
+    /// How many agents are party to no contract standing in the first, and how many of those have the same statement in the first and the second.
+    pub strangers: usize,
+    pub strangers_same: usize,
+    /// How many agents have the same statement in the first and the third.
+    pub same: usize,
+}
 
 /// Whether two calls were answered alike: both done, both refused with the same number and place, or both skipped.
 fn is_alike(one: &Answer, other: &Answer) -> bool
@@ -65,7 +78,7 @@ fn is_stranger(index: u32, places: &[Option<Contract>]) -> bool
 }
 
 /// How many calls both books heard.
-pub(crate) fn count_heard(calls: &[Call]) -> usize
+fn count_heard(calls: &[Call]) -> usize
     ensures { result ≡ heard_in calls.now }
 {
     calls
@@ -75,7 +88,7 @@ pub(crate) fn count_heard(calls: &[Call]) -> usize
 }
 
 /// How many calls both books heard and answered alike.
-pub(crate) fn count_alike(calls: &[Call], answers: &[Answer], without: &[Answer]) -> usize
+fn count_alike(calls: &[Call], answers: &[Answer], without: &[Answer]) -> usize
     ensures { result ≡ alike_in calls.now answers.now without.now }
 {
     let heard = calls.iter().zip(answers.iter().zip(without));
@@ -85,7 +98,7 @@ pub(crate) fn count_alike(calls: &[Call], answers: &[Answer], without: &[Answer]
 }
 
 /// How many agents have the same statement in two books.
-pub(crate) fn count_same(one: &[Statement], other: &[Statement]) -> usize
+fn count_same(one: &[Statement], other: &[Statement]) -> usize
     ensures { result ≡ same_in one.now other.now }
 {
     one.iter()
@@ -95,7 +108,7 @@ pub(crate) fn count_same(one: &[Statement], other: &[Statement]) -> usize
 }
 
 /// How many of so many agents are party to no standing contract.
-pub(crate) fn count_strangers(agents: u32, places: &[Option<Contract>]) -> usize
+fn count_strangers(agents: u32, places: &[Option<Contract>]) -> usize
     requires { agents ≤ 64 }
     ensures { result ≡ strangers_in agents places.now }
 {
@@ -105,7 +118,7 @@ pub(crate) fn count_strangers(agents: u32, places: &[Option<Contract>]) -> usize
 }
 
 /// How many of those have the same statement in two books.
-pub(crate) fn count_strangers_same(
+fn count_strangers_same(
     agents: u32,
     places: &[Option<Contract>],
     one: &[Statement],
@@ -118,4 +131,27 @@ pub(crate) fn count_strangers_same(
         .zip(one.iter().zip(other))
         .filter(|(index, (one, other))| is_stranger(*index, places) && is_same(one, other))
         .count()
+}
+
+/// Compares the answers of the first two books, over the contracts standing in the first, and the statements of all three.
+pub(crate) fn compare(
+    calls: &[Call],
+    answers: &[Answer],
+    answers_without: &[Answer],
+    agents: u32,
+    places: &[Option<Contract>],
+    first: &[Statement],
+    second: &[Statement],
+    third: &[Statement],
+) -> Comparison
+    requires { agents ≤ 64 }
+    ensures { Compared agents calls.now answers.now answers_without.now places.now first.now second.now third.now result }
+{
+    Comparison {
+        heard: count_heard(calls),
+        alike: count_alike(calls, answers, answers_without),
+        strangers: count_strangers(agents, places),
+        strangers_same: count_strangers_same(agents, places, first, second),
+        same: count_same(first, third),
+    }
 }

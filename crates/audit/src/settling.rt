@@ -15,6 +15,15 @@ use book::{Agent, Ledger, MonthFigures, Pool, Statement, View, open};
 use forms::{Contract, ContractForm};
 use runs::{Answer, Call, Month, balances_together, fill_statements, replay};
 
+/// What is audited: the figures that each book is opened with, the form, the agents, and the calls.
+#[derive(Drop)]
+pub(crate) struct Case<'a, F> {
+    pub(crate) figures: MonthFigures,
+    pub(crate) form: &'a F,
+    pub(crate) agents: &'a [Agent],
+    pub(crate) calls: &'a [Call],
+}
+
 /// What a book came to: whether its month is closed, and all balances together.
 #[derive(Clone, Copy)]
 pub(crate) struct Settlement {
@@ -64,71 +73,71 @@ fn conclude<F: ContractForm>(
 /// Opens a month, makes the calls that the book hears of, and writes each answer and each agent's statement to its place.
 pub(crate) fn settle_calls<F: ContractForm>(
     hears_contracts: bool,
-    figures: MonthFigures,
-    form: &F,
-    calls: &[Call],
-    agents: &[Agent],
+    case: &Case<'_, F>,
     contracts: &mut [Option<Contract>],
     ledger: &mut Ledger<'_>,
     answers: &mut [Answer],
     statements: &mut [Statement],
 ) -> Settlement
-    requires opens { open_fault figures (memory_with agents.now contracts.old ledger.old) ≡ None }
-    requires answers_long { length answers.old ≡ length calls.now }
-    requires statements_long { length statements.old ≡ length agents.now }
+    requires opens { open_fault case.now.figures (memory_with case.now.agents.now contracts.old ledger.old) ≡ None }
+    requires answers_long { length answers.old ≡ length case.now.calls.now }
+    requires statements_long { length statements.old ≡ length case.now.agents.now }
     ensures lent { SameLoan ledger.old ledger.new }
-    ensures told { answers.new ≡ answers_to hears_contracts (F.meaning form.now) figures (map request_of calls.now) (begun (memory_with agents.now contracts.old ledger.old)) }
-    ensures came { Came figures (ended hears_contracts (F.meaning form.now) figures (map request_of calls.now) (memory_with agents.now contracts.old ledger.old)) (memory_with agents.now contracts.new ledger.new) statements.new result }
+    ensures told { answers.new ≡ answers_to hears_contracts (F.meaning case.now.form.now) case.now.figures (map request_of case.now.calls.now) (begun (memory_with case.now.agents.now contracts.old ledger.old)) }
+    ensures came { Came case.now.figures (ended hears_contracts (F.meaning case.now.form.now) case.now.figures (map request_of case.now.calls.now) (memory_with case.now.agents.now contracts.old ledger.old)) (memory_with case.now.agents.now contracts.new ledger.new) statements.new result }
 {
-    let month = begin(figures, agents, contracts, ledger);
+    let month = begin(case.figures, case.agents, contracts, ledger);
     let month = replay(
         hears_contracts,
         month,
-        form,
-        calls,
-        agents,
+        case.form,
+        case.calls,
+        case.agents,
         contracts,
         ledger,
         answers,
     );
-    let pool = Pool { agents, contracts };
-    conclude(month, form, &ledger.view(&pool), statements)
+    let pool = Pool {
+        agents: case.agents,
+        contracts,
+    };
+    conclude(month, case.form, &ledger.view(&pool), statements)
 }
 
 /// Opens a month, asks only for what stands, and writes each agent's statement to its place.
 pub(crate) fn settle_standing<F: ContractForm>(
-    figures: MonthFigures,
-    form: &F,
-    calls: &[Call],
+    case: &Case<'_, F>,
     answers: &[Answer],
     places: &[Option<Contract>],
     closes: bool,
-    agents: &[Agent],
     contracts: &mut [Option<Contract>],
     ledger: &mut Ledger<'_>,
     statements: &mut [Statement],
 ) -> Repetition
-    requires opens { open_fault figures (memory_with agents.now contracts.old ledger.old) ≡ None }
+    requires opens { open_fault case.now.figures (memory_with case.now.agents.now contracts.old ledger.old) ≡ None }
     requires few { length places.now ≤ 64 }
-    requires statements_long { length statements.old ≡ length agents.now }
+    requires statements_long { length statements.old ≡ length case.now.agents.now }
     ensures lent { SameLoan ledger.old ledger.new }
-    ensures done { result.done ≡ all_done (answers_to true (F.meaning form.now) figures (only_told (hours_of figures.days) places.now (map request_of calls.now) (map reply_of answers.now) closes) (begun (memory_with agents.now contracts.old ledger.old))) }
-    ensures came { Came figures (ended true (F.meaning form.now) figures (only_told (hours_of figures.days) places.now (map request_of calls.now) (map reply_of answers.now) closes) (memory_with agents.now contracts.old ledger.old)) (memory_with agents.now contracts.new ledger.new) statements.new result.settlement }
+    ensures done { result.done ≡ all_done (answers_to true (F.meaning case.now.form.now) case.now.figures (only_told (hours_of case.now.figures.days) places.now (map request_of case.now.calls.now) (map reply_of answers.now) closes) (begun (memory_with case.now.agents.now contracts.old ledger.old))) }
+    ensures came { Came case.now.figures (ended true (F.meaning case.now.form.now) case.now.figures (only_told (hours_of case.now.figures.days) places.now (map request_of case.now.calls.now) (map reply_of answers.now) closes) (memory_with case.now.agents.now contracts.old ledger.old)) (memory_with case.now.agents.now contracts.new ledger.new) statements.new result.settlement }
 {
-    let month = begin(figures, agents, contracts, ledger);
+    let month = begin(case.figures, case.agents, contracts, ledger);
     let Rerun { month, done } = repeat(
         Rerun { month, done: true },
-        form,
-        24 * figures.days,
-        calls,
+        case.form,
+        24 * case.figures.days,
+        case.calls,
         answers,
         places,
         closes,
-        agents,
+        case.agents,
         contracts,
         ledger,
     );
-    let pool = Pool { agents, contracts };
-    let settlement = conclude(month, form, &ledger.view(&pool), statements);
+    let pool = Pool {
+        agents: case.agents,
+        contracts,
+    };
+    let settlement = conclude(month, case.form, &ledger.view(&pool), statements);
     Repetition { settlement, done }
 }

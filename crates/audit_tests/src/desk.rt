@@ -1,153 +1,231 @@
-//! A list of calls audited on a book of a generator and a distributor over one day.
-use audit::{Answer, Call, Done, Posting, Totals, audit};
-use book::{Agent, BookFault, Entry, Ledger, Line, MonthFigures, Statement};
-use forms::Contract;
+//! Memory for a book of one day and places for what an audit of it finds, and the calls that tables of cases have.
+use audit::{Answer, Call, Findings, Posting, Report, Told, audit};
+use book::{Account, Agent, BookFault, Entry, Ledger, Line, MonthFigures, Statement};
+use forms::{Contract, Delivery, Product};
 use std::alloc::{AllocError, Global};
 use tally::{Pair, Tally};
 
-/// A call, as a table of cases has it.
+/// Calls, as a table of cases has them.
 // Kept beside `Call`: cases are copied, and a `Call`'s `Vec` of lines can't be.
 #[derive(Clone, Copy)]
-pub(crate) enum Step {
-    Post(u32, u32, [Line; 2]),
+pub(crate) enum Step<'a> {
+    /// Post an hour.
+    Post(u32, u32, &'a [Line]),
+    /// Post each hour of the day, all alike.
+    PostDay(u32, &'a [Line]),
     Withdraw(u32),
+    Enter(u32, Contract),
+    Cancel(u32),
+    Close,
     Statement(u32),
 }
 
-/// The figures of an opening, and how many places are lent for answers and statements.
-#[derive(Clone, Copy)]
-pub(crate) struct Setting {
-    pub(crate) figures: MonthFigures,
-    pub(crate) answers: usize,
-    pub(crate) statements: usize,
+/// A posting, as a call.
+fn posting(heap: Global, hour: u32, price: u32, lines: &[Line]) -> Result<Call, AllocError> {
+    Ok(Call::Post(Posting {
+        hour,
+        price,
+        lines: Vec::from_slice(heap, lines)?,
+    }))
 }
 
-/// A refusal, by its number and place.
-// Kept as numbers by the rules of the pool: faults are looked up by number and place, and the tests keep their values.
-// Kept beside the `Refusal` of `book_tests`: no crate under both is for tests alone.
-#[derive(Clone, Copy, PartialEq, Eq, Debug)]
-pub(crate) struct Refusal {
-    pub(crate) number: u32,
-    pub(crate) place: u32,
-}
-
-/// What a call was answered: the balance, where a statement was given.
-pub(crate) type Told = Result<Option<i64>, Refusal>;
-
-/// What an audit came to.
-#[derive(Clone, Copy, PartialEq, Eq, Debug)]
-pub(crate) struct Outcome {
-    pub(crate) settled: Result<Totals, Refusal>,
-    pub(crate) generator: Statement,
-    pub(crate) distributor: Statement,
-}
-
-/// What an audit came to, and what each place for an answer holds after it.
-#[derive(Drop)]
-pub(crate) struct Findings {
-    pub(crate) outcome: Outcome,
-    pub(crate) told: Vec<Told>,
-}
-
-/// Nothing refused, and no statement given.
-pub(crate) const DONE: Told = Ok(None);
-
-const AGENTS: [Agent; 2] = [
-    Agent {
-        role: 1,
-        capacity: 4_000_000,
-        power: 0,
-    },
-    Agent {
-        role: 2,
-        capacity: 4_000_000,
-        power: 0,
-    },
-];
-
-fn calls_of(heap: Global, steps: &[Step]) -> Result<Vec<Call>, AllocError> {
-    let mut calls = Vec::new(heap);
-    for step in steps {
-        let call = match step {
-            Step::Post(hour, price, lines) => Call::Post(Posting {
-                hour: *hour,
-                price: *price,
-                lines: Vec::from_slice(heap, lines)?,
+impl Step<'_> {
+    /// Its call, of those that are one.
+    fn call(&self, heap: Global) -> Result<Call, AllocError> {
+        match self {
+            Step::Post(hour, price, lines) => posting(heap, *hour, *price, lines),
+            Step::PostDay(price, lines) => posting(heap, 0, *price, lines),
+            Step::Withdraw(hour) => Ok(Call::Withdraw(*hour)),
+            Step::Enter(number, contract) => Ok(Call::Enter {
+                number: *number,
+                contract: *contract,
             }),
-            Step::Withdraw(hour) => Call::Withdraw(*hour),
-            Step::Statement(agent) => Call::Provisional(*agent),
-        };
-        calls.push(call)?;
-    }
-    Ok(calls)
-}
-
-impl From<BookFault> for Refusal {
-    fn from(fault: BookFault) -> Refusal {
-        Refusal {
-            number: fault.number(),
-            place: fault.place(),
+            Step::Cancel(number) => Ok(Call::Cancel(*number)),
+            Step::Close => Ok(Call::Close),
+            Step::Statement(agent) => Ok(Call::Statement(*agent)),
         }
     }
 }
 
-fn told_of(answer: Answer) -> Told {
-    match answer? {
-        Done::Accepted => Ok(None),
-        Done::Stated(statement) => Ok(Some(statement.balance)),
+/// Adds the postings of each hour of the day.
+fn push_day(
+    heap: Global,
+    calls: &mut Vec<Call>,
+    price: u32,
+    lines: &[Line],
+) -> Result<(), AllocError> {
+    for hour in 0..24 {
+        calls.push(posting(heap, hour, price, lines)?)?;
+    }
+    Ok(())
+}
+
+/// The calls of these steps.
+pub(crate) fn calls_of(heap: Global, steps: &[Step<'_>]) -> Result<Vec<Call>, AllocError> {
+    let mut calls = Vec::new(heap);
+    for step in steps {
+        match step {
+            Step::PostDay(price, lines) => push_day(heap, &mut calls, *price, lines)?,
+            step => calls.push(step.call(heap)?)?,
+        }
+    }
+    Ok(calls)
+}
+
+/// What a call was answered: of a statement its balance, and of a refusal its number and place.
+#[derive(Clone, Copy, PartialEq, Eq, Debug)]
+pub(crate) enum Said {
+    Done,
+    Stated(i64),
+    Skipped,
+    Refused(u32, u32),
+}
+
+fn told_of(answer: &Answer) -> Said {
+    match answer {
+        Ok(Told::Accepted) => Said::Done,
+        Ok(Told::Stated(statement)) => Said::Stated(statement.balance),
+        Ok(Told::Skipped) => Said::Skipped,
+        Err(fault) => Said::Refused(fault.number(), fault.place()),
     }
 }
 
-/// The audit in memory of its own.
-fn settle(
-    figures: MonthFigures,
-    calls: &[Call],
-    answers: &mut [Answer],
-    statements: &mut [Statement],
-) -> Result<Totals, Refusal> {
-    let nothing: Entry = Pair::neutral();
-    let mut accounts = [nothing; 2];
-    let mut contracts: [Option<Contract>; 64] = [None; 64];
-    let mut marks = [1u8; 24];
-    let mut entries = [nothing; 48];
-    let mut ledger = Ledger {
-        accounts: &mut accounts,
-        marks: &mut marks,
-        entries: &mut entries,
-    };
-    Ok(audit(
-        figures,
-        calls,
-        &AGENTS,
-        &mut contracts,
-        &mut ledger,
-        answers,
-        statements,
-    )?)
+/// What calls were answered.
+pub(crate) fn all_said(heap: Global, answers: &[Answer]) -> Result<Vec<Said>, AllocError> {
+    answers.iter().map(told_of).collect(heap)
 }
 
-/// Audits the calls, with no more of eight places for answers and three for statements lent than the setting says.
-pub(crate) fn audited(
-    heap: Global,
-    setting: Setting,
-    steps: &[Step],
-) -> Result<Findings, AllocError> {
-    let calls = calls_of(heap, steps)?;
-    // Kept longer than what is lent: the places past it are seen to stay as they are.
-    let mut answers: Vec<Answer> = vec![in heap; Ok(Done::Accepted); 8]?;
-    let mut statements = vec![in heap; Statement::blank(); 3]?;
-    let settled = settle(
-        setting.figures,
-        &calls,
-        &mut answers[0..setting.answers.min(8)],
-        &mut statements[0..setting.statements.min(3)],
-    );
-    Ok(Findings {
-        outcome: Outcome {
-            settled,
-            generator: statements[0],
-            distributor: statements[1],
-        },
-        told: answers.iter().map(|answer| told_of(*answer)).collect(heap)?,
-    })
+/// What an audit comes to, or the number of the fault for which it is refused.
+pub(crate) type Outcome = Result<Report, u32>;
+
+/// The memory of a book, and places for what an audit finds.
+#[derive(Drop)]
+pub(crate) struct Desk {
+    pub(crate) agents: Vec<Agent>,
+    pub(crate) accounts: Vec<Account>,
+    pub(crate) contracts: Vec<Option<Contract>>,
+    pub(crate) marks: Vec<u8>,
+    pub(crate) entries: Vec<Entry>,
+    pub(crate) answers: Vec<Answer>,
+    pub(crate) answers_without: Vec<Answer>,
+    pub(crate) statements: Vec<Statement>,
+    pub(crate) statements_without: Vec<Statement>,
+    pub(crate) statements_again: Vec<Statement>,
+}
+
+/// What a desk lends to an audit.
+#[derive(Drop)]
+pub(crate) struct Loan<'d> {
+    pub(crate) agents: &'d [Agent],
+    pub(crate) contracts: &'d mut [Option<Contract>],
+    pub(crate) ledger: Ledger<'d>,
+    pub(crate) findings: Findings<'d>,
+}
+
+/// A contract that no book takes, in memory before an opening.
+pub(crate) const STALE_CONTRACT: Contract = Contract {
+    delivery: Delivery::BuyerNode,
+    kind: 9,
+    seller: 9,
+    buyer: 9,
+    first: 9,
+    last: 9,
+    price: 9,
+    peak: 9,
+    medium: 9,
+    base: 9,
+    margin: 9,
+};
+
+/// What is in the places for answers before an audit.
+pub(crate) const STALE_ANSWER: Answer = Err(BookFault::NoPowerCarrier);
+
+/// What is in the places for statements before an audit.
+pub(crate) fn stale_statement() -> Statement {
+    Statement {
+        balance: 9,
+        ..Statement::blank()
+    }
+}
+
+/// What is in accounts and entries before an opening.
+pub(crate) fn stale_entry() -> Entry {
+    let mut entry: Entry = Pair::neutral();
+    entry.first.market = 9;
+    entry
+}
+
+impl Desk {
+    /// Memory for a book of these agents, and places for what an audit of so many calls finds, all of it used before.
+    pub(crate) fn new(heap: Global, agents: &[Agent], calls: usize) -> Result<Desk, AllocError> {
+        let count = agents.len().min(64);
+        Ok(Desk {
+            agents: Vec::from_slice(heap, agents)?,
+            accounts: vec![in heap; stale_entry(); count]?,
+            contracts: vec![in heap; Some(STALE_CONTRACT); 64]?,
+            marks: vec![in heap; 9; 24]?,
+            entries: vec![in heap; stale_entry(); 24 * count]?,
+            answers: vec![in heap; STALE_ANSWER; calls]?,
+            answers_without: vec![in heap; STALE_ANSWER; calls]?,
+            statements: vec![in heap; stale_statement(); count]?,
+            statements_without: vec![in heap; stale_statement(); count]?,
+            statements_again: vec![in heap; stale_statement(); count]?,
+        })
+    }
+
+    /// All of it, lent to an audit.
+    pub(crate) fn lend(&mut self) -> Loan<'_> {
+        Loan {
+            agents: &self.agents,
+            contracts: &mut self.contracts,
+            ledger: Ledger {
+                accounts: &mut self.accounts,
+                marks: &mut self.marks,
+                entries: &mut self.entries,
+            },
+            findings: Findings {
+                answers: &mut self.answers,
+                answers_without: &mut self.answers_without,
+                statements: &mut self.statements,
+                statements_without: &mut self.statements_without,
+                statements_again: &mut self.statements_again,
+            },
+        }
+    }
+
+    /// Audits calls on a book of the product's contracts.
+    pub(crate) fn audit(&mut self, figures: MonthFigures, calls: &[Call]) -> Outcome {
+        let Loan {
+            agents,
+            contracts,
+            mut ledger,
+            mut findings,
+        } = self.lend();
+        let outcome = audit(
+            figures,
+            &Product,
+            calls,
+            agents,
+            contracts,
+            &mut ledger,
+            &mut findings,
+        );
+        outcome.map_err(|fault| fault.number())
+    }
+}
+
+/// An audit that was accepted, with all that it found.
+#[derive(Drop)]
+pub(crate) struct Audited {
+    pub(crate) report: Report,
+    pub(crate) desk: Desk,
+}
+
+/// The figures of a book of these agents, of one day from a Monday on.
+pub(crate) fn monday(agents: &[Agent]) -> MonthFigures {
+    MonthFigures {
+        agents: agents.len().min(65) as u32,
+        days: 1,
+        weekday: 0,
+    }
 }

@@ -7,11 +7,11 @@ use Rattle.audit.proofs.settling.settle_calls.Goals as goal
 
 pub conclude-requires : goal.conclude-requires
 conclude-requires g c =
-    let form = g.F.ContractForm.meaning c.args.form.now in
-    let m = memory_with c.args.agents.now c.args.contracts.now c.args.ledger.now in
-    let requests = map request_of c.args.calls.now in
+    let form = g.F.ContractForm.meaning c.args.case.now.form.now in
+    let m = memory_with c.args.case.now.agents.now c.args.contracts.now c.args.ledger.now in
+    let requests = map request_of c.args.case.now.calls.now in
     let begun = c.begin-month.ensures in
     let heard = c.replay-month.ensures in
     let kept = heard.kept ∙ (λ t. kept_after c.args.hears_contracts form (begun.figures t) requests (begun.kept t)) in
-    statable_at form (g.met.F.ContractForm.keeps c.args.form.now) c.args.figures m c.requires.opens c.args.hears_contracts requests _ c.requires.statements_long
+    statable_at form (g.met.F.ContractForm.keeps c.args.case.now.form.now) c.args.case.now.figures m c.requires.opens c.args.hears_contracts requests _ c.requires.statements_long
     (figures_in c.replay-month.result) (memory_seen c.view.result) (heard.figures ∙ begun.figures) (c.view.ensures ∙ ap (λ (k : Kept). k.memory) kept)
