@@ -1,6 +1,6 @@
 //! What an audit found, in words.
 use crate::dollars::Dollars;
-use audit::Report;
+use audit::{Comparison, Report};
 use book::BookFault;
 use std::fmt;
 use thiserror::Error;
@@ -20,46 +20,54 @@ pub(crate) enum NoAudit {
 #[derive(Clone, Copy)]
 pub(crate) struct Facts(pub(crate) Report);
 
+/// Writes the sums of balances and the residue.
+fn write_sums<W: fmt::Write>(report: Report, f: &mut fmt::Formatter<W>) -> fmt::Result {
+    let sums = [
+        ("first", report.balances),
+        ("second", report.balances_without),
+        ("third", report.balances_again),
+    ];
+    for (book, sum) in sums {
+        writeln!(
+            f,
+            "Sum of balances in the {book} book: {}.",
+            Dollars::from(sum)
+        )?;
+    }
+    writeln!(
+        f,
+        "Residue of the standing hours: {}.",
+        Dollars::from(report.residue)
+    )
+}
+
 impl fmt::Display for Facts {
     fn fmt<W: fmt::Write>(&self, f: &mut fmt::Formatter<W>) -> fmt::Result {
         let report = self.0;
+        let Comparison {
+            heard,
+            alike,
+            strangers,
+            strangers_same,
+            same,
+        } = report.comparison;
         writeln!(
             f,
-            "Calls that the first and the second book both heard: {}.",
-            report.heard
+            "Calls that the first and the second book both heard: {heard}."
         )?;
-        writeln!(f, "Of these calls, answered alike: {}.", report.alike)?;
-        let sums = [
-            ("first", report.balances),
-            ("second", report.balances_without),
-            ("third", report.balances_again),
-        ];
-        for (book, sum) in sums {
-            writeln!(
-                f,
-                "Sum of balances in the {book} book: {}.",
-                Dollars::from(sum)
-            )?;
-        }
+        writeln!(f, "Of these calls, answered alike: {alike}.")?;
+        write_sums(report, f)?;
         writeln!(
             f,
-            "Residue of the standing hours: {}.",
-            Dollars::from(report.residue)
+            "Agents that are party to no standing contract: {strangers}."
         )?;
         writeln!(
             f,
-            "Agents that are party to no standing contract: {}.",
-            report.strangers
-        )?;
-        writeln!(
-            f,
-            "Of these agents, with the same statement in the first and the second book: {}.",
-            report.strangers_same
+            "Of these agents, with the same statement in the first and the second book: {strangers_same}."
         )?;
         write!(
             f,
-            "Agents with the same statement in the first and the third book: {}.",
-            report.same
+            "Agents with the same statement in the first and the third book: {same}."
         )
     }
 }
