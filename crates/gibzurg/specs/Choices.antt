@@ -1,6 +1,8 @@
 -- The words that stand for numbers.
-use Rattle.std.specs.Prelude.{ℕ, ◌+◌, cond, List, [], ◌∷◌, Some, codes, Option}
+use Rattle.std.specs.Prelude.{ℕ, ◌+◌, cond, List, [], ◌∷◌, Some, None, codes, Option, nat_eq}
 use Rattle.std.specs.Str.{bytes_eq}
+use Rattle.forms.specs.declared.Delivery.{Delivery}
+use Rattle.forms.specs.declared.Delivery.TheVariants.{MarketBar, SellerNode, BuyerNode}
 use Rattle.gibzurg.specs.declared.choices.Choice.{Choice}
 use Rattle.gibzurg.specs.declared.choices.Choice.TheVariants.{Weekday, Role, Class}
 use Rattle.gibzurg.specs.Numbers.{number_of}
@@ -27,3 +29,16 @@ abbrev pub meant : Choice → List ℕ → Option ℕ
 meant Weekday word = place_among 0 weekdays word
 meant Role word = place_among 1 roles word
 meant Class word = place_among 1 classes word
+
+-- places of delivery are counted from 1
+abbrev pub places : List (List ℕ)
+places = codes "market" ∷ codes "seller" ∷ codes "buyer" ∷ []
+
+-- the place of delivery of a number, where there is one
+abbrev pub delivery_numbered : Option ℕ → Option Delivery
+delivery_numbered None = None
+delivery_numbered (Some n) = cond (nat_eq n 1) (Some MarketBar) (cond (nat_eq n 2) (Some SellerNode) (cond (nat_eq n 3) (Some BuyerNode) None))
+
+-- the place of delivery that a word stands for
+abbrev pub place_meant : List ℕ → Option Delivery
+place_meant word = delivery_numbered (place_among 1 places word)

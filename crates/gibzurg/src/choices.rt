@@ -1,8 +1,9 @@
 //! Figures that a journal may give by a word.
 ghost use Rattle.std.specs.Prelude.{◌≡◌, ◌+◌, ◌<◌, ◌^◌, length, map};
-ghost use Rattle.gibzurg.specs.Choices.{place_among, meant};
+ghost use Rattle.gibzurg.specs.Choices.{place_among, meant, place_meant};
 
 use crate::numbers::number;
+use forms::Delivery;
 
 /// The days of a week, which are counted from 0.
 const WEEKDAYS: [&str; 7] = [
@@ -20,6 +21,9 @@ const ROLES: [&str; 3] = ["generator", "distributor", "consumer"];
 
 /// What a line may be, counted from 1.
 const CLASSES: [&str; 3] = ["normal", "obligated", "forced"];
+
+/// Where a contract may be delivered, counted from 1.
+const PLACES: [&str; 3] = ["market", "seller", "buyer"];
 
 /// A figure that has words of its own.
 #[derive(Clone, Copy, Debug, PartialEq)]
@@ -58,6 +62,18 @@ impl Choice {
             Choice::Role => numbered(1, &ROLES, word),
             Choice::Class => numbered(1, &CLASSES, word),
         }
+    }
+}
+
+/// The place of delivery that a word names, or the number of one. There is no place of any other number.
+pub(crate) fn place(word: &str) -> Option<Delivery>
+    ensures { result ≡ place_meant word.now }
+{
+    match numbered(1, &PLACES, word)? {
+        1 => Some(Delivery::MarketBar),
+        2 => Some(Delivery::SellerNode),
+        3 => Some(Delivery::BuyerNode),
+        _ => None,
     }
 }
 

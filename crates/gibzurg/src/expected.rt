@@ -6,7 +6,7 @@ use thiserror::Error;
 #[derive(Clone, Copy, Debug, Error, PartialEq)]
 pub(crate) enum Expected {
     /// One of the words that begin a line.
-    #[error("expected a line that begins with open, agent, post, line, withdraw, statement or statements")]
+    #[error("expected a line that begins with open, agent, contract, post, line, withdraw, cancel, close, statement or statements")]
     Call,
     /// A label and a number.
     #[error("expected the word \"{0}\" and a number from 0 to 4294967295")]
@@ -14,9 +14,15 @@ pub(crate) enum Expected {
     /// A label and a word or a number.
     #[error("expected the word \"{}\" and one of {}, or a number", .0.label(), .0.names())]
     Named(Choice),
+    /// The place of delivery of a contract.
+    #[error("expected the word \"place\" and one of market, seller, buyer, or a number from 1 to 3")]
+    Place,
     /// The number of an agent.
     #[error("expected the number of an agent")]
     Agent,
+    /// The number of a contract.
+    #[error("expected the number of a contract")]
+    Contract,
     /// No word more.
     #[error("expected the end of the line")]
     End,

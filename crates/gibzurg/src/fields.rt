@@ -1,7 +1,8 @@
 //! The words of one journal line, taken one after another.
-use crate::choices::Choice;
+use crate::choices::{Choice, place};
 use crate::expected::Expected;
 use crate::numbers::number;
+use forms::Delivery;
 use std::str::Split;
 
 /// What is left of a line, in the pieces between its spaces.
@@ -43,9 +44,21 @@ impl<'a> Fields<'a> {
             .ok_or(Expected::Named(choice))
     }
 
+    /// The place of delivery after its label.
+    pub(crate) fn place(&mut self) -> Result<Delivery, Expected> {
+        self.labelled("place")
+            .and_then(place)
+            .ok_or(Expected::Place)
+    }
+
     /// The number of an agent, with no label of its own.
     pub(crate) fn agent(&mut self) -> Result<u32, Expected> {
         self.word().and_then(number).ok_or(Expected::Agent)
+    }
+
+    /// The number of a contract, with no label of its own.
+    pub(crate) fn contract(&mut self) -> Result<u32, Expected> {
+        self.word().and_then(number).ok_or(Expected::Contract)
     }
 
     /// That no word is left.

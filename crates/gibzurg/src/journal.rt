@@ -3,6 +3,7 @@ use crate::choices::Choice;
 use crate::expected::Expected;
 use crate::fields::Fields;
 use book::{Agent, Line, MonthFigures};
+use forms::Contract;
 
 /// What one journal line says.
 #[derive(Clone, Copy, Debug, PartialEq)]
@@ -19,8 +20,11 @@ pub(crate) enum Entry {
 #[derive(Clone, Copy, Debug, PartialEq)]
 pub(crate) enum Request {
     Open(MonthFigures),
+    Enter { number: u32, contract: Contract },
     Post { hour: u32, price: u32 },
     Withdraw { hour: u32 },
+    Cancel { number: u32 },
+    Close,
     Statement { agent: u32 },
     Statements,
 }
@@ -76,6 +80,23 @@ fn posting_line(fields: &mut Fields) -> Result<Line, Expected> {
     })
 }
 
+/// The terms of a contract, after its number.
+fn contract(fields: &mut Fields) -> Result<Contract, Expected> {
+    Ok(Contract {
+        kind: fields.figure("kind")?,
+        seller: fields.figure("seller")?,
+        buyer: fields.figure("buyer")?,
+        delivery: fields.place()?,
+        first: fields.figure("first")?,
+        last: fields.figure("last")?,
+        price: fields.figure("price")?,
+        peak: fields.figure("peak")?,
+        medium: fields.figure("medium")?,
+        base: fields.figure("base")?,
+        margin: fields.figure("margin")?,
+    })
+}
+
 /// The call that a line's first word names.
 fn call_named(first: &str, fields: &mut Fields) -> Result<Request, Expected> {
     Ok(match first {
@@ -84,6 +105,10 @@ fn call_named(first: &str, fields: &mut Fields) -> Result<Request, Expected> {
             days: fields.figure("days")?,
             weekday: fields.choice(Choice::Weekday)?,
         }),
+        "contract" => Request::Enter {
+            number: fields.contract()?,
+            contract: contract(fields)?,
+        },
         "post" => Request::Post {
             hour: fields.figure("hour")?,
             price: fields.figure("price")?,
@@ -91,6 +116,10 @@ fn call_named(first: &str, fields: &mut Fields) -> Result<Request, Expected> {
         "withdraw" => Request::Withdraw {
             hour: fields.figure("hour")?,
         },
+        "cancel" => Request::Cancel {
+            number: fields.contract()?,
+        },
+        "close" => Request::Close,
         "statement" => Request::Statement {
             agent: fields.agent()?,
         },

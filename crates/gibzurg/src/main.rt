@@ -1,15 +1,21 @@
 //! The program: runs the journal of a month's book, and says in words what came of it.
 #![tactic(auto)]
 
+mod auditing;
 mod choices;
+mod differences;
 mod dollars;
 mod expected;
+mod facts;
 mod fields;
 mod help;
 mod journal;
 mod ledger;
+mod memory;
 mod numbers;
+mod record;
 mod session;
+mod settling;
 #[cfg(test)]
 mod tests;
 mod trouble;
@@ -43,7 +49,8 @@ fn run(rt: &HostRuntime) -> Result<(), Trouble> {
     }
     match (command.as_str(), file) {
         ("help", None) => print_help(rt),
-        ("settle", Some(path)) => session::settle(rt, text(rt, path.as_str())?.as_str()),
+        ("settle", Some(path)) => settling::settle(rt, text(rt, path.as_str())?.as_str()),
+        ("audit", Some(path)) => auditing::audit(rt, text(rt, path.as_str())?.as_str()),
         _ => Err(Trouble::UnknownCommand),
     }
 }

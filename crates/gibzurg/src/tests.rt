@@ -1,14 +1,34 @@
 //! What the parser reads, and what the printer says, on examples.
 use crate::choices::Choice;
+use crate::differences::{Books, Difference, compared, is_alike};
 use crate::dollars::Dollars;
 use crate::expected::Expected;
+use crate::facts::{Facts, NoAudit};
 use crate::journal::{Entry, Request};
 use crate::numbers::number;
 use crate::trouble::Trouble;
-use crate::words::{Heading, Reply, Totals, Undone};
-use crate::{journal, session};
-use book::{Agent, BookFault, Line, MonthFigures};
+use crate::words::{Heading, Reply, Sheet, Stage, Totals, Undone};
+use crate::{auditing, journal, settling};
+use audit::{Comparison, Report, Told};
+use book::{Agent, BookFault, Line, MonthFigures, Statement};
+use forms::{Contract, Delivery, Role};
 use std::test::Fail;
+use tally::{Energy, Money, Peak};
+
+/// The contract of the lines that are read below.
+const BLOCK: Contract = Contract {
+    delivery: Delivery::MarketBar,
+    kind: 1,
+    seller: 1,
+    buyer: 2,
+    first: 0,
+    last: 23,
+    price: 50_000,
+    peak: 100,
+    medium: 90,
+    base: 80,
+    margin: 7,
+};
 
 #[test]
 fn reads_numbers(rt: HostRuntime) {
@@ -98,10 +118,51 @@ fn reads_lines(rt: HostRuntime) {
             Some(Entry::Call(Request::Withdraw { hour: 8 })),
         ),
         (
+            "cancel 64",
+            Some(Entry::Call(Request::Cancel { number: 64 })),
+        ),
+        ("close", Some(Entry::Call(Request::Close))),
+        (
             "statement 64",
             Some(Entry::Call(Request::Statement { agent: 64 })),
         ),
         ("statements", Some(Entry::Call(Request::Statements))),
+    ];
+    for (line, wanted) in lines {
+        assert_eq!(rt; journal::read(line), Ok(wanted), "{}", line);
+    }
+}
+
+#[test]
+fn reads_contracts(rt: HostRuntime) {
+    let lines = [
+        (
+            "contract 1 kind 1 seller 1 buyer 2 place market first 0 last 23 price 50000 peak 100 medium 90 base 80 margin 7",
+            Some(Entry::Call(Request::Enter {
+                number: 1,
+                contract: BLOCK,
+            })),
+        ),
+        (
+            "contract 65 kind 1 seller 1 buyer 2 place seller first 0 last 23 price 50000 peak 100 medium 90 base 80 margin 7",
+            Some(Entry::Call(Request::Enter {
+                number: 65,
+                contract: Contract {
+                    delivery: Delivery::SellerNode,
+                    ..BLOCK
+                },
+            })),
+        ),
+        (
+            "contract 0 kind 1 seller 1 buyer 2 place 3 first 0 last 23 price 50000 peak 100 medium 90 base 80 margin 7",
+            Some(Entry::Call(Request::Enter {
+                number: 0,
+                contract: Contract {
+                    delivery: Delivery::BuyerNode,
+                    ..BLOCK
+                },
+            })),
+        ),
     ];
     for (line, wanted) in lines {
         assert_eq!(rt; journal::read(line), Ok(wanted), "{}", line);
@@ -141,8 +202,43 @@ fn refuses_lines(rt: HostRuntime) {
             Expected::Figure("cost"),
         ),
         ("withdraw 8", Expected::Figure("hour")),
+        ("cancel", Expected::Contract),
+        ("cancel contract 1", Expected::Contract),
+        ("close 1", Expected::End),
         ("statement", Expected::Agent),
         ("statements 2", Expected::End),
+    ];
+    for (line, wanted) in lines {
+        assert_eq!(rt; journal::read(line), Err(wanted), "{}", line);
+    }
+}
+
+#[test]
+fn refuses_contracts(rt: HostRuntime) {
+    let lines = [
+        ("contract", Expected::Contract),
+        ("contract kind 1", Expected::Contract),
+        ("contract 1 seller 1", Expected::Figure("kind")),
+        (
+            "contract 1 kind 1 seller 1 buyer 2 place bar first 0",
+            Expected::Place,
+        ),
+        (
+            "contract 1 kind 1 seller 1 buyer 2 place 0 first 0",
+            Expected::Place,
+        ),
+        (
+            "contract 1 kind 1 seller 1 buyer 2 place 4 first 0",
+            Expected::Place,
+        ),
+        (
+            "contract 1 kind 1 seller 1 buyer 2 first 0 last 23",
+            Expected::Place,
+        ),
+        (
+            "contract 1 kind 1 seller 1 buyer 2 place 1 first 0 last 1 price 1 peak 1 medium 1 base 1",
+            Expected::Figure("margin"),
+        ),
     ];
     for (line, wanted) in lines {
         assert_eq!(rt; journal::read(line), Err(wanted), "{}", line);
@@ -206,23 +302,178 @@ fn says_replies(rt: HostRuntime) -> Result<(), Fail> {
         reply.to_string(rt.alloc())?.as_str(),
         "Line 9, withdraw hour 8: refused, fault 9 at 8, the hour is free."
     );
-    let totals = Totals(audit::Totals {
+    let reply = Reply {
+        line: 10,
+        heading: Heading::Contract(65),
+        outcome: Err(Undone::Refused(BookFault::ContractNumber)),
+    };
+    assert_eq!(rt;
+        reply.to_string(rt.alloc())?.as_str(),
+        "Line 10, contract 65: refused, fault 12 at 0, the contract number is outside 1 to 64, taken or not standing."
+    );
+    let reply = Reply {
+        line: 11,
+        heading: Heading::Cancel(1),
+        outcome: Err(Undone::Closed),
+    };
+    assert_eq!(rt;
+        reply.to_string(rt.alloc())?.as_str(),
+        "Line 11, cancel 1: skipped, the month is closed."
+    );
+    let reply = Reply {
+        line: 12,
+        heading: Heading::Close,
+        outcome: Err(Undone::Refused(BookFault::MissingHour(7))),
+    };
+    assert_eq!(rt;
+        reply.to_string(rt.alloc())?.as_str(),
+        "Line 12, close: refused, fault 10 at 7, an hour of the month is missing."
+    );
+    Ok(())
+}
+
+#[test]
+fn says_totals(rt: HostRuntime) -> Result<(), Fail> {
+    let totals = Totals {
         balances: -23_640,
         residue: 23_640,
-    });
+    };
     assert_eq!(rt;
         totals.to_string(rt.alloc())?.as_str(),
         "Sum of balances: minus 2.3640 dollars.\nResidue of the standing hours: 2.3640 dollars.\nThe sum of balances is minus the residue."
     );
-    let totals = Totals(audit::Totals {
+    let totals = Totals {
         balances: 1,
         residue: 1,
-    });
+    };
     assert_eq!(rt;
         totals.to_string(rt.alloc())?.as_str(),
         "Sum of balances: 0.0001 dollars.\nResidue of the standing hours: 0.0001 dollars.\nThe sum of balances is NOT minus the residue."
     );
     Ok(())
+}
+
+/// A statement with another figure in each of its lines.
+const STATEMENT: Statement = Statement {
+    lines: Money {
+        market: -593_640,
+        contract: 10_000,
+        overcost: -1,
+        power: 57_000,
+    },
+    balance: -526_641,
+    energy: Energy {
+        injected: 3,
+        withdrawn: 970,
+    },
+    peak: Peak { kwh: 970, hour: 8 },
+};
+
+#[test]
+fn says_statements(rt: HostRuntime) -> Result<(), Fail> {
+    let sheet = Sheet {
+        agent: 2,
+        role: Some(Role::Distributor),
+        stage: Stage::Final,
+        statement: STATEMENT,
+    };
+    assert_eq!(rt;
+        sheet.to_string(rt.alloc())?.as_str(),
+        "Statement of agent 2, distributor, final.\nMarket: minus 59.3640 dollars.\nContracts: 1.0000 dollars.\nOvercost: minus 0.0001 dollars.\nPower: 5.7000 dollars.\nBalance: minus 52.6641 dollars.\nInjected: 3 kilowatt-hours.\nWithdrawn: 970 kilowatt-hours.\nPeak: 970 kilowatt-hours in hour 8.\nEnd of statement."
+    );
+    Ok(())
+}
+
+#[test]
+fn says_audits(rt: HostRuntime) -> Result<(), Fail> {
+    let facts = Facts(Report {
+        balances: -1,
+        balances_without: -2,
+        balances_again: -3,
+        residue: 4,
+        repeated: true,
+        comparison: Comparison {
+            heard: 5,
+            alike: 6,
+            strangers: 7,
+            strangers_same: 8,
+            same: 9,
+        },
+    });
+    assert_eq!(rt;
+        facts.to_string(rt.alloc())?.as_str(),
+        "Calls that the first and the second book both heard: 5.\nOf these calls, answered alike: 6.\nSum of balances in the first book: minus 0.0001 dollars.\nSum of balances in the second book: minus 0.0002 dollars.\nSum of balances in the third book: minus 0.0003 dollars.\nResidue of the standing hours: 0.0004 dollars.\nAgents that are party to no standing contract: 7.\nOf these agents, with the same statement in the first and the second book: 8.\nAgents with the same statement in the first and the third book: 9."
+    );
+    assert_eq!(rt;
+        NoAudit::NoOpening.to_string(rt.alloc())?.as_str(),
+        "Audit: none, since no book was opened."
+    );
+    assert_eq!(rt;
+        NoAudit::Refused(BookFault::OutsideBook)
+            .to_string(rt.alloc())?
+            .as_str(),
+        "Audit: none, since the last opening was refused, fault 3 at 0, a figure of the opening or the statement's agent is outside the book's limits."
+    );
+    Ok(())
+}
+
+#[test]
+fn says_differences(rt: HostRuntime) -> Result<(), Fail> {
+    let answer = Difference::Answer {
+        line: 8,
+        heading: Heading::Post(3),
+    };
+    assert_eq!(rt;
+        answer.to_string(rt.alloc())?.as_str(),
+        "Difference between the first and the second book: line 8, post hour 3, the answer."
+    );
+    let statement = Difference::Statement {
+        books: Books::FirstAndThird,
+        agent: 2,
+        line: "Market",
+    };
+    assert_eq!(rt;
+        statement.to_string(rt.alloc())?.as_str(),
+        "Difference between the first and the third book: agent 2, Market."
+    );
+    Ok(())
+}
+
+#[test]
+fn finds_differences(rt: HostRuntime) {
+    for (line, differs) in compared(&STATEMENT, &STATEMENT) {
+        assert!(rt; !differs, "{}", line);
+    }
+    for (line, differs) in compared(&STATEMENT, &Statement::blank()) {
+        assert!(rt; differs, "{}", line);
+    }
+    let later = Statement {
+        peak: Peak { kwh: 970, hour: 9 },
+        ..STATEMENT
+    };
+    for (line, differs) in compared(&STATEMENT, &later) {
+        assert_eq!(rt; differs, line == "Peak", "{}", line);
+    }
+    let answers = [
+        Ok(Told::Accepted),
+        Ok(Told::Skipped),
+        Err(BookFault::FreeHour(1)),
+        Err(BookFault::FreeHour(2)),
+        Err(BookFault::MissingHour(1)),
+    ];
+    for (place, one) in answers.iter().enumerate() {
+        for (other_place, other) in answers.iter().enumerate() {
+            assert_eq!(rt;
+                is_alike(one, other),
+                place == other_place,
+                "{} {}",
+                place,
+                other_place
+            );
+        }
+    }
+    let stated = Ok(Told::Stated(STATEMENT));
+    assert!(rt; is_alike(&stated, &Ok(Told::Stated(Statement::blank()))));
 }
 
 #[test]
@@ -257,12 +508,14 @@ fn ends_runs(rt: HostRuntime) -> Result<(), Fail> {
         ),
     ];
     for (text, line, wanted) in journals {
-        match session::settle(&rt, text) {
-            Err(Trouble::Malformed(at, expected)) => {
-                assert_eq!(rt; at, line, "{}", text);
-                assert_eq!(rt; expected, wanted, "{}", text);
+        for outcome in [settling::settle(&rt, text), auditing::audit(&rt, text)] {
+            match outcome {
+                Err(Trouble::Malformed(at, expected)) => {
+                    assert_eq!(rt; at, line, "{}", text);
+                    assert_eq!(rt; expected, wanted, "{}", text);
+                }
+                _ => return Err(Fail::new(text)),
             }
-            _ => return Err(Fail::new(text)),
         }
     }
     Ok(())

@@ -1,0 +1,148 @@
+//! What differs between the books of an audit. Nothing ever should.
+use crate::record::{Audited, Places};
+use crate::words::Heading;
+use audit::{Answer, Call, Told};
+use book::Statement;
+use forms::Contract;
+use std::alloc::{AllocError, Global};
+use std::fmt;
+
+/// The two books that are compared.
+#[derive(Clone, Copy, Debug, PartialEq)]
+pub(crate) enum Books {
+    FirstAndSecond,
+    FirstAndThird,
+}
+
+impl fmt::Display for Books {
+    fn fmt<W: fmt::Write>(&self, f: &mut fmt::Formatter<W>) -> fmt::Result {
+        match self {
+            Books::FirstAndSecond => write!(f, "the first and the second book"),
+            Books::FirstAndThird => write!(f, "the first and the third book"),
+        }
+    }
+}
+
+/// What differs.
+#[derive(Clone, Copy, Debug, PartialEq)]
+pub(crate) enum Difference {
+    /// The answer to a call of this journal line, in the first and the second book.
+    Answer {
+        line: usize,
+        heading: Heading,
+    },
+    /// A line of an agent's statement.
+    Statement {
+        books: Books,
+        agent: u32,
+        line: &'static str,
+    },
+}
+
+impl fmt::Display for Difference {
+    fn fmt<W: fmt::Write>(&self, f: &mut fmt::Formatter<W>) -> fmt::Result {
+        match self {
+            Difference::Answer { line, heading } => {
+                let books = Books::FirstAndSecond;
+                write!(
+                    f,
+                    "Difference between {books}: line {line}, {heading}, the answer."
+                )
+            }
+            Difference::Statement { books, agent, line } => {
+                write!(f, "Difference between {books}: agent {agent}, {line}.")
+            }
+        }
+    }
+}
+
+/// The lines of a statement by the words that begin them, each with whether it differs in two statements.
+pub(crate) fn compared(one: &Statement, other: &Statement) -> [(&'static str, bool); 8] {
+    let (left, right) = (one.lines, other.lines);
+    [
+        ("Market", left.market != right.market),
+        ("Contracts", left.contract != right.contract),
+        ("Overcost", left.overcost != right.overcost),
+        ("Power", left.power != right.power),
+        ("Balance", one.balance != other.balance),
+        ("Injected", one.energy.injected != other.energy.injected),
+        ("Withdrawn", one.energy.withdrawn != other.energy.withdrawn),
+        ("Peak", one.peak != other.peak),
+    ]
+}
+
+/// Whether two answers are alike: both done, both skipped, or both refused with the same number and place.
+pub(crate) fn is_alike(one: &Answer, other: &Answer) -> bool {
+    match (one, other) {
+        (Ok(Told::Skipped), Ok(Told::Skipped)) => true,
+        (Ok(Told::Skipped), _) | (_, Ok(Told::Skipped)) => false,
+        (Ok(_), Ok(_)) => true,
+        (Err(fault), Err(another)) => fault.number() == another.number()
+            && fault.place() == another.place(),
+        _ => false,
+    }
+}
+
+/// Whether an agent is party to none of the contracts.
+fn is_stranger(agent: u32, contracts: &[Option<Contract>]) -> bool {
+    !contracts.iter().flatten().any(|contract| contract.seller == agent || contract.buyer == agent)
+}
+
+/// What differs between the answers of the first and the second book, of the calls that both heard.
+fn differing_answers(
+    heap: Global,
+    calls: &[Call],
+    lines: &[usize],
+    found: &Places,
+) -> Result<Vec<Difference>, AllocError> {
+    let mut differences = Vec::new(heap);
+    let answers = found.answers.iter().zip(&found.answers_without);
+    for ((call, line), (one, other)) in calls.iter().zip(lines).zip(answers) {
+        if !call.is_about_contracts() && !is_alike(one, other) {
+            differences.push(Difference::Answer {
+                line: *line,
+                heading: Heading::from(call),
+            })?;
+        }
+    }
+    Ok(differences)
+}
+
+/// Adds what differs between two statements of an agent.
+fn compare(
+    differences: &mut Vec<Difference>,
+    books: Books,
+    agent: u32,
+    one: &Statement,
+    other: &Statement,
+) -> Result<(), AllocError> {
+    for (line, differs) in compared(one, other) {
+        if differs {
+            differences.push(Difference::Statement { books, agent, line })?;
+        }
+    }
+    Ok(())
+}
+
+impl Audited {
+    /// Whatever differs: answers by the lines of the journal, and statements by the agents and their lines.
+    pub(crate) fn differences(
+        &self,
+        heap: Global,
+        calls: &[Call],
+        lines: &[usize],
+    ) -> Result<Vec<Difference>, AllocError> {
+        let found = &self.found;
+        let mut differences = differing_answers(heap, calls, lines, found)?;
+        let (first, second) = (&found.statements, &found.statements_without);
+        for (agent, (one, other)) in (1u32..).zip(first.iter().zip(second)) {
+            if is_stranger(agent, &self.contracts) {
+                compare(&mut differences, Books::FirstAndSecond, agent, one, other)?;
+            }
+        }
+        for (agent, (one, other)) in (1u32..).zip(first.iter().zip(&found.statements_again)) {
+            compare(&mut differences, Books::FirstAndThird, agent, one, other)?;
+        }
+        Ok(differences)
+    }
+}
