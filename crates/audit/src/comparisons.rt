@@ -23,7 +23,7 @@ pub struct Comparison {
 }
 
 /// Whether two calls were answered alike: both done, both refused with the same number and place, or both skipped.
-fn is_alike(one: &Answer, other: &Answer) -> bool
+pub fn is_alike(one: &Answer, other: &Answer) -> bool
     ensures { result ≡ same_manner (reply_of one.now) (reply_of other.now) }
 {
     match one {
@@ -58,20 +58,21 @@ fn is_same(one: &Statement, other: &Statement) -> bool
         && one.peak.hour == other.peak.hour
 }
 
-/// Whether the agent at place `index` is a party to what is in a contract place.
+/// Whether the agent at place `index`, counted from 0, is a party to what is in a contract place.
 fn is_party(index: u32, place: &Option<Contract>) -> bool
-    requires { index < 64 }
     ensures { result ≡ is_party index place.now }
 {
     match place {
-        Some(contract) => contract.seller == index + 1 || contract.buyer == index + 1,
+        Some(contract) => {
+            contract.seller.checked_sub(1) == Some(index)
+                || contract.buyer.checked_sub(1) == Some(index)
+        }
         None => false,
     }
 }
 
-/// Whether the agent at place `index` is party to no standing contract.
-fn is_stranger(index: u32, places: &[Option<Contract>]) -> bool
-    requires { index < 64 }
+/// Whether the agent at place `index`, counted from 0, is party to no standing contract.
+pub fn is_stranger(index: u32, places: &[Option<Contract>]) -> bool
     ensures { result ≡ is_stranger places.now index }
 {
     places.iter().all(|place| !is_party(index, place))
@@ -109,7 +110,6 @@ fn count_same(one: &[Statement], other: &[Statement]) -> usize
 
 /// How many of so many agents are party to no standing contract.
 fn count_strangers(agents: u32, places: &[Option<Contract>]) -> usize
-    requires { agents ≤ 64 }
     ensures { result ≡ strangers_in agents places.now }
 {
     (0..agents)
@@ -124,7 +124,6 @@ fn count_strangers_same(
     one: &[Statement],
     other: &[Statement],
 ) -> usize
-    requires { agents ≤ 64 }
     ensures { result ≡ strangers_same agents places.now one.now other.now }
 {
     (0..agents)
@@ -144,7 +143,6 @@ pub(crate) fn compare(
     second: &[Statement],
     third: &[Statement],
 ) -> Comparison
-    requires { agents ≤ 64 }
     ensures { Compared agents calls.now answers.now answers_without.now places.now first.now second.now third.now result }
 {
     Comparison {

@@ -9,5 +9,5 @@ mod residues;
 mod settling;
 
 pub use audits::{Findings, Report, audit};
-pub use comparisons::Comparison;
+pub use comparisons::{Comparison, is_alike, is_stranger};
 pub use runs::{Answer, Call, Month, Posting, Told, answer};

@@ -1,9 +1,8 @@
 //! What differs between the books of an audit. Nothing ever should.
 use crate::record::{Audited, Places};
 use crate::words::Heading;
-use audit::{Answer, Call, Told};
+use audit::{Call, is_alike, is_stranger};
 use book::Statement;
-use forms::Contract;
 use std::alloc::{AllocError, Global};
 use std::fmt;
 
@@ -71,23 +70,6 @@ pub(crate) fn compared(one: &Statement, other: &Statement) -> [(&'static str, bo
     ]
 }
 
-/// Whether two answers are alike: both done, both skipped, or both refused with the same number and place.
-pub(crate) fn is_alike(one: &Answer, other: &Answer) -> bool {
-    match (one, other) {
-        (Ok(Told::Skipped), Ok(Told::Skipped)) => true,
-        (Ok(Told::Skipped), _) | (_, Ok(Told::Skipped)) => false,
-        (Ok(_), Ok(_)) => true,
-        (Err(fault), Err(another)) => fault.number() == another.number()
-            && fault.place() == another.place(),
-        _ => false,
-    }
-}
-
-/// Whether an agent is party to none of the contracts.
-fn is_stranger(agent: u32, contracts: &[Option<Contract>]) -> bool {
-    !contracts.iter().flatten().any(|contract| contract.seller == agent || contract.buyer == agent)
-}
-
 /// What differs between the answers of the first and the second book, of the calls that both heard.
 fn differing_answers(
     heap: Global,
@@ -136,7 +118,7 @@ impl Audited {
         let mut differences = differing_answers(heap, calls, lines, found)?;
         let (first, second) = (&found.statements, &found.statements_without);
         for (agent, (one, other)) in (1u32..).zip(first.iter().zip(second)) {
-            if is_stranger(agent, &self.contracts) {
+            if is_stranger(agent.saturating_sub(1), &self.contracts) {
                 compare(&mut differences, Books::FirstAndSecond, agent, one, other)?;
             }
         }

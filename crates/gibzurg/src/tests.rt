@@ -1,6 +1,6 @@
 //! What the parser reads, and what the printer says, on examples.
 use crate::choices::Choice;
-use crate::differences::{Books, Difference, compared, is_alike};
+use crate::differences::{Books, Difference, compared};
 use crate::dollars::Dollars;
 use crate::expected::Expected;
 use crate::facts::{Facts, NoAudit};
@@ -9,7 +9,7 @@ use crate::numbers::number;
 use crate::trouble::Trouble;
 use crate::words::{Heading, Reply, Sheet, Stage, Totals, Undone};
 use crate::{auditing, journal, settling};
-use audit::{Comparison, Report, Told};
+use audit::{Comparison, Report, Told, is_alike};
 use book::{Agent, BookFault, Line, MonthFigures, Statement};
 use forms::{Contract, Delivery, Role};
 use std::test::Fail;
