@@ -6,26 +6,22 @@ use std::alloc::Global;
 use std::process::Abort;
 use std::test::Fail;
 
-/// A list of calls.
-type List<'a> = &'a [Step<'a>];
-
 /// The statements of an audit's first book and of its third.
 fn statements(found: &Audited) -> (&[Statement], &[Statement]) {
     (&found.desk.statements, &found.desk.statements_again)
 }
 
-/// Audits the two lists of each case, and sees whether all their statements are the same.
-fn try_pairs(
+/// Audits two lists, and sees whether all their statements are the same.
+fn compare(
     rt: &impl Abort,
     heap: Global,
-    cases: &[(List<'_>, List<'_>)],
+    one: &[Step<'_>],
+    other: &[Step<'_>],
     same: bool,
 ) -> Result<(), Fail> {
-    for (one, other) in cases {
-        let one = audited(heap, one)?;
-        let other = audited(heap, other)?;
-        assert_eq!(rt; statements(&one) == statements(&other), same);
-    }
+    let one = audited(heap, one)?;
+    let other = audited(heap, other)?;
+    assert_eq!(rt; statements(&one) == statements(&other), same);
     Ok(())
 }
 
@@ -36,16 +32,12 @@ fn other_orders_and_numbers(rt: HostRuntime) -> Result<(), Fail> {
     let again = Step::Enter(2, BLOCK);
     let post = Step::Post(8, 60_000, &TRADE);
     let other = Step::Post(6, 30_000, &TRADE);
-    let cases: [(List<'_>, List<'_>); 4] = [
-        (&[post, other], &[other, post]),
-        (&[block, share, post], &[late, moved, post]),
-        (
-            &[block, share, post, other],
-            &[late, moved, other, late, post],
-        ),
-        (&[block, again, post, other], &[moved, block, other, post]),
-    ];
-    try_pairs(&rt, rt.alloc(), &cases, true)
+    let with = [block, share, post, other];
+    let twice = [block, again, post, other];
+    let heap = rt.alloc();
+    compare(&rt, heap, &[post, other], &[other, post], true)?;
+    compare(&rt, heap, &with, &[late, moved, other, late, post], true)?;
+    compare(&rt, heap, &twice, &[moved, block, other, post], true)
 }
 
 #[test]
@@ -54,25 +46,17 @@ fn other_ways_to_the_same_standing(rt: HostRuntime) -> Result<(), Fail> {
     let (resold, cancel) = (Step::Enter(1, RESOLD), Step::Cancel(1));
     let (post, withdraw) = (Step::Post(8, 60_000, &TRADE), Step::Withdraw(8));
     let other = Step::Post(8, 1, &QUIET);
-    let day = Step::PostDay(60_000, &TRADE);
-    let close = Step::Close;
-    let cases: [(List<'_>, List<'_>); 5] = [
-        (&[post], &[other, post]),
-        (&[], &[block, post, withdraw, cancel, close]),
-        (
-            &[block, post],
-            &[share, cancel, resold, cancel, block, other, post],
-        ),
-        (
-            &[block, post],
-            &[share, post, withdraw, cancel, block, cancel, block, post],
-        ),
-        (
-            &[block, day, close],
-            &[close, block, other, day, withdraw, post, close, withdraw],
-        ),
-    ];
-    try_pairs(&rt, rt.alloc(), &cases, true)
+    let (day, close) = (Step::PostDay(60_000, &TRADE), Step::Close);
+    let empty = [block, post, withdraw, cancel, close];
+    let cancelled = [share, cancel, resold, cancel, block, other, post];
+    let back = [share, post, withdraw, cancel, block, post];
+    let closed = [close, block, other, day, withdraw, post, close, withdraw];
+    let heap = rt.alloc();
+    compare(&rt, heap, &[post], &[other, post], true)?;
+    compare(&rt, heap, &[], &empty, true)?;
+    compare(&rt, heap, &[block, post], &cancelled, true)?;
+    compare(&rt, heap, &[block, post], &back, true)?;
+    compare(&rt, heap, &[block, day, close], &closed, true)
 }
 
 #[test]
@@ -82,14 +66,12 @@ fn another_standing_gives_other_statements(rt: HostRuntime) -> Result<(), Fail> 
     let later = Step::Post(9, 60_000, &TRADE);
     let cheaper = Step::Post(8, 30_000, &TRADE);
     let day = Step::PostDay(60_000, &TRADE);
-    let cases: [(List<'_>, List<'_>); 5] = [
-        (&[post], &[later]),
-        (&[post], &[cheaper]),
-        (&[post], &[block, post]),
-        (&[block, post], &[block, again, post]),
-        (&[day], &[day, Step::Close]),
-    ];
-    try_pairs(&rt, rt.alloc(), &cases, false)
+    let heap = rt.alloc();
+    compare(&rt, heap, &[post], &[later], false)?;
+    compare(&rt, heap, &[post], &[cheaper], false)?;
+    compare(&rt, heap, &[post], &[block, post], false)?;
+    compare(&rt, heap, &[block, post], &[block, again, post], false)?;
+    compare(&rt, heap, &[day], &[day, Step::Close], false)
 }
 
 // Contracts, refused ones and cancelled ones among them, a correction and a withdrawn hour: what is left in memory is what stands.
