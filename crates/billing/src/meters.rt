@@ -1,0 +1,33 @@
+//! The day of a meter.
+ghost use Rattle.std.specs.Prelude.{◌≡◌};
+ghost use Rattle.meter.specs.Days.{AddsUp};
+ghost use Rattle.billing.specs.Meters.{metered_of, day_metered};
+
+use meter::read_day;
+
+/// What a call answers: the number and the place of its fault, or 0 and 0 where there is none.
+// Kept as numbers, since C looks faults up by number and place.
+#[repr(C)]
+#[derive(Clone, Copy, PartialEq, Eq, Debug)]
+pub struct Answer {
+    pub number: u32,
+    pub place: u32,
+}
+
+/// Checks the dump of a day, 1,536 bytes, and writes its 24 hours into the first 384 bytes of the output. A refusal leaves all of it as it was.
+#[unsafe(no_mangle)]
+pub extern "C" fn gibzurg_meter_day(dump: &[u8], output: &mut [u8]) -> Answer
+    ensures value { metered_of result output.new ≡ day_metered dump.now output.old }
+    ensures adds_up { result.number ≡ 0 → AddsUp dump.now output.new }
+{
+    match read_day(dump, output) {
+        Ok(()) => Answer {
+            number: 0,
+            place: 0,
+        },
+        Err(fault) => Answer {
+            number: fault.number(),
+            place: fault.place(),
+        },
+    }
+}

@@ -1,0 +1,5 @@
+pub mod Dumps
+pub mod Checks
+pub mod Puts
+pub mod HourBytes
+pub mod Adding

@@ -1,0 +1,5 @@
+pub mod Quarters
+pub mod Faults
+pub mod Hours
+pub mod Puts
+pub mod Days
