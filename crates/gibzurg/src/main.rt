@@ -1,4 +1,4 @@
-//! The program: runs the journal of a month's book, and says in words what came of it.
+//! The program: runs the journal of a month's book or reads the day of a meter, and says in words what came of it.
 #![tactic(auto)]
 
 mod auditing;
@@ -12,6 +12,7 @@ mod help;
 mod journal;
 mod ledger;
 mod memory;
+mod metering;
 mod numbers;
 mod record;
 mod session;
@@ -51,19 +52,24 @@ fn run(rt: &HostRuntime) -> Result<(), Trouble> {
         ("help", None) => print_help(rt),
         ("settle", Some(path)) => settling::settle(rt, text(rt, path.as_str())?.as_str()),
         ("audit", Some(path)) => auditing::audit(rt, text(rt, path.as_str())?.as_str()),
+        ("meter", Some(path)) => metering::meter(rt, bytes(rt, path.as_str())?.as_slice()),
         _ => Err(Trouble::UnknownCommand),
     }
 }
 
-/// The text of a file, or of standard input where the path is `-`. A byte that is no text becomes a mark that no word has.
+/// The bytes of a file, or of standard input where the path is `-`.
+fn bytes(rt: &HostRuntime, path: &str) -> Result<Vec<u8>, Trouble> {
+    if path != "-" {
+        return Ok(fs::read(rt, path)?);
+    }
+    let mut bytes = Vec::new(rt.alloc());
+    rt.stdin().read_to_end(&mut bytes)?;
+    Ok(bytes)
+}
+
+/// The same as text. A byte that is no text becomes a mark that no word has.
 fn text(rt: &HostRuntime, path: &str) -> Result<String, Trouble> {
-    let bytes = if path == "-" {
-        let mut bytes = Vec::new(rt.alloc());
-        rt.stdin().read_to_end(&mut bytes)?;
-        bytes
-    } else {
-        fs::read(rt, path)?
-    };
+    let bytes = bytes(rt, path)?;
     Ok(String::from_utf8_lossy(rt.alloc(), bytes.as_slice())?)
 }
 

@@ -5,6 +5,7 @@ use crate::dollars::Dollars;
 use crate::expected::Expected;
 use crate::facts::{Facts, NoAudit};
 use crate::journal::{Entry, Request};
+use crate::metering::{Metered, Unmetered, hour_in};
 use crate::numbers::number;
 use crate::trouble::Trouble;
 use crate::words::{Heading, Reply, Sheet, Stage, Totals, Undone};
@@ -12,6 +13,7 @@ use crate::{auditing, journal, settling};
 use audit::{Comparison, Report, Told, is_alike};
 use book::{Agent, BookFault, Line, MonthFigures, Statement};
 use forms::{Contract, Delivery, Role};
+use meter::{Hour, MeterFault};
 use std::test::Fail;
 use tally::{Energy, Money, Peak};
 
@@ -474,6 +476,80 @@ fn finds_differences(rt: HostRuntime) {
     }
     let stated = Ok(Told::Stated(STATEMENT));
     assert!(rt; is_alike(&stated, &Ok(Told::Stated(Statement::blank()))));
+}
+
+#[test]
+fn reads_hours(rt: HostRuntime) {
+    let mut day = [0; 384];
+    day[368..384].copy_from_slice(&[0, 0, 0, 40, 0, 0, 1, 4, 0, 2, 0, 0, 1, 0, 0, 3]);
+    let wanted = Hour {
+        gross: 40,
+        net: 260,
+        external: 131_072,
+        auxiliaries: 16_777_219,
+    };
+    assert_eq!(rt; hour_in(&day, 23), wanted);
+    let blank = Hour {
+        gross: 0,
+        net: 0,
+        external: 0,
+        auxiliaries: 0,
+    };
+    assert_eq!(rt; hour_in(&day, 22), blank);
+}
+
+#[test]
+fn says_hours(rt: HostRuntime) -> Result<(), Fail> {
+    let metered = Metered {
+        number: 0,
+        hour: Hour {
+            gross: 40,
+            net: 36,
+            external: 0,
+            auxiliaries: 4,
+        },
+    };
+    assert_eq!(rt;
+        metered.to_string(rt.alloc())?.as_str(),
+        "Hour 0: gross 40, net 36, external auxiliaries 0, auxiliaries 4 kilowatt-hours."
+    );
+    let metered = Metered {
+        number: 23,
+        hour: Hour {
+            gross: 4_000_000,
+            net: 0,
+            external: 3_999_999,
+            auxiliaries: 7_999_999,
+        },
+    };
+    assert_eq!(rt;
+        metered.to_string(rt.alloc())?.as_str(),
+        "Hour 23: gross 4000000, net 0, external auxiliaries 3999999, auxiliaries 7999999 kilowatt-hours."
+    );
+    Ok(())
+}
+
+#[test]
+fn says_refused_days(rt: HostRuntime) -> Result<(), Fail> {
+    let faults = [
+        (
+            MeterFault::OutputTooShort,
+            "Meter: refused, fault 1 at 0, the output is too short for the hours of a day.",
+        ),
+        (
+            MeterFault::WrongLength,
+            "Meter: refused, fault 15 at 0, the dump is not as long as that of a day.",
+        ),
+        (
+            MeterFault::Quarter(95),
+            "Meter: refused, fault 16 at 95, a quarter's channel, gross or net energy is outside its limit.",
+        ),
+    ];
+    for (fault, wanted) in faults {
+        let said = Unmetered(fault).to_string(rt.alloc())?;
+        assert_eq!(rt; said.as_str(), wanted);
+    }
+    Ok(())
 }
 
 #[test]

@@ -11,7 +11,7 @@ pub(crate) enum Trouble {
     #[error("Line {0}: {1}.")]
     Malformed(usize, Expected),
     /// A command that the program does not have.
-    #[error("Unknown command: expected settle or audit and a file, or help.")]
+    #[error("Unknown command: expected settle, audit or meter and a file, or help.")]
     UnknownCommand,
     /// A book of this size finds no memory.
     #[error("Out of memory.")]
