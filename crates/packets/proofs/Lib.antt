@@ -1,1 +1,3 @@
 pub mod Spelling
+pub mod Formats
+pub mod RowSteps

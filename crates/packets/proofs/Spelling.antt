@@ -1,11 +1,10 @@
 -- A number has one spelling, and reading it gives the number. Assumes nothing.
-use Rattle.std.proofs.Common.{◌≡◌, ℕ, zero, suc, ◌+◌, ◌-◌, ◌*◌, ◌/◌, ◌%◌, ◌^◌, ◌<◌, ◌≤◌, Bool, true, false, cond, eqb, ltb, leb, List, [], ◌∷◌, ◌++◌, length, set, take, drop, get_or, Option, Some, None, refl, sym, ap, ◌∙◌, ⊎_elim, Fits, w8, arith}
+use Rattle.std.proofs.Common.{◌≡◌, ℕ, zero, suc, ◌+◌, ◌-◌, ◌*◌, ◌/◌, ◌%◌, ◌^◌, ◌<◌, ◌≤◌, true, false, cond, ltb, List, [], ◌∷◌, ◌++◌, length, set, take, drop, get_or, Option, Some, None, refl, sym, ap, ◌∙◌, ⊎_elim, Fits, w8, arith}
 use Rattle.std.proofs.lemmas.Nat.{div_below}
 use Rattle.std.proofs.lemmas.List.{take_rest, drop_all, append-nil}
 use borrow.Rule.Slice.PartMut.{put_mid}
 use Rattle.std.proofs.lemmas.Bool.Decides.{nat_tests}
 use Rattle.std.proofs.lemmas.Bool.{cases_lt}
-use Rattle.std.proofs.lemmas.Grind.{common_steps}
 use Rattle.packets.specs.declared.numbers.Number.{Number}
 use Rattle.packets.specs.Numbers.{spelled_in, spelled, continued, number_in, at_most, overwritten}
 
@@ -16,9 +15,9 @@ limit_same zero zero v hf hg = refl
 limit_same zero (suc g) v hf hg = grind (arith, nat_tests)
 limit_same (suc f) zero v hf hg = grind (arith, nat_tests)
 limit_same (suc f) (suc g) v hf hg = elim (ltb v 128) as (λ t. cond t (v ∷ []) ((v % 128 + 128) ∷ spelled_in f (v / 128)) ≡ cond t (v ∷ []) ((v % 128 + 128) ∷ spelled_in g (v / 128))) [
-    true ↦ refl
+  | true ↦ refl
   | false ↦ ap (λ xs. (v % 128 + 128) ∷ xs) (limit_same f g (v / 128) (omega arith) (omega arith))
-  ]
+]
 
 -- one group
 pub spelled_low : (v : ℕ) → v < 128 → spelled v ≡ v ∷ []
@@ -115,19 +114,20 @@ spelling [] x typed h = absurd (let e = read_none in cc)
 spelling (b ∷ bytes) x typed h =
     ⊎_elim
     (λ low.
-      let is = low_is b x (sym (read_low b bytes low) ∙ h) in
-      let once : spelled x.value ≡ b ∷ [] = ap spelled is.0 ∙ spelled_low b low in
-      (ap (λ xs. xs ++ bytes) (sym once) ∙ ap (λ n. spelled x.value ++ drop n (b ∷ bytes)) (sym is.1), is.1 ∙ sym (ap length once)))
+    let is = low_is b x (sym (read_low b bytes low) ∙ h) in
+    let once : spelled x.value ≡ b ∷ [] = ap spelled is.0 ∙ spelled_low b low in
+    (ap (λ xs. xs ++ bytes) (sym once) ∙ ap (λ n. spelled x.value ++ drop n (b ∷ bytes)) (sym is.1), is.1 ∙ sym (ap length once)))
     (λ more.
-      let k = continued_inv b (number_in bytes) x (sym (read_more b bytes more) ∙ h) in
-      let deeper = spelling bytes k.0 (λ i. typed (suc i)) k.1.0 in
-      let byte : b < 256 = omega (arith, (typed 0).fits) in
-      let high : x.value / 128 ≡ k.0.value = omega (arith, k.1.2) in
-      let lowest : x.value % 128 + 128 ≡ b = omega (arith, k.1.2) in
-      let once : spelled x.value ≡ b ∷ spelled k.0.value = spelled_more x.value (omega (arith, k.1.2)) ∙ ap (λ v. v ∷ spelled (x.value / 128)) lowest ∙ ap (λ v. b ∷ spelled v) high in
-      let size : x.size ≡ suc k.0.size = omega (arith, k.1.3) in
-      (ap (λ xs. b ∷ xs) deeper.0 ∙ ap (λ xs. xs ++ drop k.0.size bytes) (sym once) ∙ ap (λ n. spelled x.value ++ drop n (b ∷ bytes)) (sym size),
-        size ∙ ap suc deeper.1 ∙ sym (ap length once)))
+    let k = continued_inv b (number_in bytes) x (sym (read_more b bytes more) ∙ h) in
+    let deeper = spelling bytes k.0 (λ i. typed (suc i)) k.1.0 in
+    let byte : b < 256 = omega (arith, (typed 0).fits) in
+    let high : x.value / 128 ≡ k.0.value = omega (arith, k.1.2) in
+    let lowest : x.value % 128 + 128 ≡ b = omega (arith, k.1.2) in
+    let once : spelled x.value ≡ b ∷ spelled k.0.value = spelled_more x.value (omega (arith, k.1.2)) ∙ ap (λ v. v ∷ spelled (x.value / 128)) lowest ∙ ap (λ v. b ∷ spelled v) high in
+    let size : x.size ≡ suc k.0.size = omega (arith, k.1.3) in (
+      ap (λ xs. b ∷ xs) deeper.0 ∙ ap (λ xs. xs ++ drop k.0.size bytes) (sym once) ∙ ap (λ n. spelled x.value ++ drop n (b ∷ bytes)) (sym size),
+      size ∙ ap suc deeper.1 ∙ sym (ap length once),
+    ))
     (cases_lt b 128)
 
 reads_low : (v : ℕ) (rest : List ℕ) → v < 128 → number_in (spelled v ++ rest) ≡ Some (record { value = v; size = length (spelled v) })
@@ -140,16 +140,16 @@ reads (suc f) v rest h =
     ⊎_elim
     (λ low. reads_low v rest low)
     (λ more.
-      let once = spelled_more v more in
-      let deeper = reads f (v / 128) rest (omega arith) in
-      let size : length (spelled (v / 128)) + 1 ≡ length (spelled v) = omega (arith, ap length once) in
-      let whole : v % 128 + 128 - 128 + 128 * (v / 128) ≡ v = omega arith in
-      ap (λ xs. number_in (xs ++ rest)) once
-      ∙ read_more (v % 128 + 128) (spelled (v / 128) ++ rest) (omega arith)
-      ∙ ap (continued (v % 128 + 128)) deeper
-      ∙ continued_some (v % 128 + 128) (record { value = v / 128; size = length (spelled (v / 128)) }) (omega arith)
-      ∙ ap (λ n. Some (record { value = n; size = length (spelled (v / 128)) + 1 })) whole
-      ∙ ap (λ n. Some (record { value = v; size = n })) size)
+    let once = spelled_more v more in
+    let deeper = reads f (v / 128) rest (omega arith) in
+    let size : length (spelled (v / 128)) + 1 ≡ length (spelled v) = omega (arith, ap length once) in
+    let whole : v % 128 + 128 - 128 + 128 * (v / 128) ≡ v = omega arith in
+    ap (λ xs. number_in (xs ++ rest)) once
+    ∙ read_more (v % 128 + 128) (spelled (v / 128) ++ rest) (omega arith)
+    ∙ ap (continued (v % 128 + 128)) deeper
+    ∙ continued_some (v % 128 + 128) (record { value = v / 128; size = length (spelled (v / 128)) }) (omega arith)
+    ∙ ap (λ n. Some (record { value = n; size = length (spelled (v / 128)) + 1 })) whole
+    ∙ ap (λ n. Some (record { value = v; size = n })) size)
     (cases_lt v 128)
 
 pub reads_spelled : (v : ℕ) (rest : List ℕ) → number_in (spelled v ++ rest) ≡ Some (record { value = v; size = length (spelled v) })
@@ -167,6 +167,25 @@ spelled_le (suc n) v h =
 -- a number of 64 bits has ten groups at most
 pub spelled_ten : (v : ℕ) → v < 2 ^ 64 → length (spelled v) ≤ 10
 spelled_ten v h = spelled_le 9 v (omega arith)
+
+-- a number of 64 bits was read from ten groups at most
+read_le : (n : ℕ) (bytes : List ℕ) (x : Number) → x.value < 128 ^ suc n → number_in bytes ≡ Some x → x.size ≤ suc n
+read_le n [] x small h = absurd (let e = read_none in cc)
+read_le zero (b ∷ bytes) x small h =
+    ⊎_elim
+    (λ low. omega (arith, low_is b x (sym (read_low b bytes low) ∙ h)))
+    (λ more. let k = continued_inv b (number_in bytes) x (sym (read_more b bytes more) ∙ h) in absurd (omega (arith, small, k.1.1, k.1.2)))
+    (cases_lt b 128)
+read_le (suc n) (b ∷ bytes) x small h =
+    ⊎_elim
+    (λ low. omega (arith, low_is b x (sym (read_low b bytes low) ∙ h)))
+    (λ more.
+    let k = continued_inv b (number_in bytes) x (sym (read_more b bytes more) ∙ h) in
+    omega (arith, k.1.3, read_le n bytes k.0 (omega (arith, small, k.1.2)) k.1.0))
+    (cases_lt b 128)
+
+pub read_ten : (bytes : List ℕ) (x : Number) → x.value < 2 ^ 64 → number_in bytes ≡ Some x → x.size ≤ 10
+read_ten bytes x small h = read_le 9 bytes x (omega arith) h
 
 -- the number that bytes begin with, by their first
 pub first_low : (bytes : List ℕ) (b : ℕ) → 1 ≤ length bytes → b ≡ get_or bytes 0 0 → b < 128 → number_in bytes ≡ Some (record { value = b; size = 1 })
@@ -191,6 +210,6 @@ over_more v (x ∷ output) new more room is =
     let g = v % 128 + 128 in
     let once : suc (length output) - 1 ≡ length output = omega arith in
     rw (spelled_more v more) (
-      ap (λ k. put_mid 1 k (g ∷ output) new) once
-      ∙ ap (λ ys. g ∷ (new ++ ys)) (drop_all (length output) output (omega arith))
-      ∙ ap (λ ys. g ∷ ys) (append-nil new ∙ is ∙ ap (overwritten (spelled (v / 128))) (take_rest (g ∷ output) 1)))
+    ap (λ k. put_mid 1 k (g ∷ output) new) once
+    ∙ ap (λ ys. g ∷ (new ++ ys)) (drop_all (length output) output (omega arith))
+    ∙ ap (λ ys. g ∷ ys) (append-nil new ∙ is ∙ ap (overwritten (spelled (v / 128))) (take_rest (g ∷ output) 1)))

@@ -3,5 +3,6 @@
 
 mod faults;
 mod numbers;
+mod rows;
 
 pub use faults::ByteFault;

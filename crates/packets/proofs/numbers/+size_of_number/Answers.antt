@@ -1,4 +1,4 @@
-use Rattle.std.proofs.Common.{suc, ◌/◌, length, sym, ap, ◌∙◌, arith}
+use Rattle.std.proofs.Common.{◌/◌, length, sym, ap, arith}
 use Rattle.packets.proofs.Spelling.{spelled_low, spelled_more, spelled_ten}
 use Rattle.packets.proofs.numbers.+size_of_number.Goals as goal
 
