@@ -14,7 +14,7 @@ and_then_ok (Ok x) next y h = (x, (refl, h))
 and_then_ok (Err fault) next y h = absurd (cc)
 
 -- a choice that is no fault
-cond_ok : {A F : Type 0} (t : Bool) (r : Result A F) (fault : F) (x : A) → cond t r (Err fault) ≡ Ok x → (t ≡ true) × (r ≡ Ok x)
+pub cond_ok : {A F : Type 0} (t : Bool) (r : Result A F) (fault : F) (x : A) → cond t r (Err fault) ≡ Ok x → (t ≡ true) × (r ≡ Ok x)
 cond_ok true r fault x h = (refl, h)
 cond_ok false r fault x h = absurd (cc)
 

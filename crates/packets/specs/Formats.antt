@@ -1,10 +1,10 @@
 -- Formats as data, and what reading and writing by a format come to. Places are counted from 0. Assumes nothing.
-use Rattle.std.specs.Prelude.{ℕ, ◌+◌, Bool, cond, ◌&&◌, List, [], ◌∷◌, ◌++◌, length, drop, Option, Some, None, Result, Ok, Err, nat_le, slice_index_or}
+use Rattle.std.specs.Prelude.{ℕ, ◌≡◌, ◌≤◌, ◌+◌, Bool, cond, ◌&&◌, List, [], ◌∷◌, ◌++◌, length, drop, Option, Some, None, Result, Ok, Err, nat_le, slice_index_or}
 use Rattle.packets.specs.declared.faults.ByteFault.{ByteFault}
-use Rattle.packets.specs.declared.faults.ByteFault.TheVariants.{Malformed}
+use Rattle.packets.specs.declared.faults.ByteFault.TheVariants.{WrongSize, Malformed}
 use Rattle.packets.specs.declared.numbers.Number.{Number}
 use Rattle.packets.specs.declared.rows.Limits.{Limits}
-use Rattle.packets.specs.Numbers.{number_in, spelled}
+use Rattle.packets.specs.Numbers.{number_in, spelled, overwritten}
 
 -- what may come next: nothing more, or a number from the least to the most, which sets what may follow it
 pub data Format : Type 0 where
@@ -87,3 +87,21 @@ no_limits = record { least = 0; most = 0 }
 -- the most that the number at a place of a row may be
 abbrev pub most_at : List Limits → ℕ → ℕ
 most_at limits k = (slice_index_or limits k no_limits).most
+
+-- how many bytes figures are written in: an output that is too short is told after figures that the format has no place for
+abbrev pub written : Format → List ℕ → List ℕ → Result ℕ ByteFault
+written f figures output = and_then (sized f figures 0) (λ size. cond (nat_le size (length output)) (Ok size) (Err WrongSize))
+
+-- what an answer leaves of an output: the bytes over its first ones, or what was there
+abbrev pub left_with : Result ℕ ByteFault → List ℕ → List ℕ → List ℕ
+left_with (Ok size) bytes output = overwritten bytes output
+left_with (Err fault) bytes output = output
+
+-- the output once figures were written there
+abbrev pub output_with : Format → List ℕ → List ℕ → List ℕ
+output_with f figures output = left_with (written f figures output) (spelled_all figures) output
+
+-- whatever output has room for the bytes, writing the figures there gives them
+pub record Spells (f : Format) (figures bytes : List ℕ) : Type 0 where
+  pub size : (output : List ℕ) → length bytes ≤ length output → written f figures output ≡ Ok (length bytes)
+  pub output : (output : List ℕ) → length bytes ≤ length output → output_with f figures output ≡ overwritten bytes output

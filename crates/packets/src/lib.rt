@@ -2,7 +2,9 @@
 #![tactic(auto)]
 
 mod faults;
+mod hours;
 mod numbers;
 mod rows;
 
 pub use faults::ByteFault;
+pub use hours::{HourHeading, PacketLine, read_hour, write_hour};

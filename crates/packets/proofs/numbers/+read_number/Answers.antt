@@ -39,7 +39,8 @@ overflow_add-size t c =
 
 pub returns : goal.returns
 returns t c =
+    let some : 0 < c.in_ok-high.high.value = omega arith in
     let e = first_more c.args.bytes.now c.from-group.result c.in-len1-up.len_at_least c.from-group.ensures c.if-group-lt128.false in
     let high = at_most_some (c.args.most / 128) _ c.in_ok-high.high (sym c.read_number.ensures ∙ c.in_ok-high.was) in
-    let k = continued_some c.from-group.result c.in_ok-high.high (omega arith) in
+    let k = continued_some c.from-group.result c.in_ok-high.high some in
     rw e (grind (arith, nat_tests) ∙ sym (ap (λ n. at_most c.args.most (continued c.from-group.result n)) high ∙ ap (at_most c.args.most) k))
