@@ -1,5 +1,5 @@
 -- The lines of an hour packet, a line at a time, and its figures. Assumes nothing.
-use Rattle.std.proofs.Common.{◌≡◌, ℕ, zero, suc, ◌+◌, ◌-◌, ◌*◌, ◌<◌, ◌≤◌, ◌^◌, Bool, true, false, cond, leb, List, [], ◌∷◌, ◌++◌, length, take, drop, get_or, set, slice_index, Result, Ok, Err, refl, sym, ap, ◌∙◌, arith, lit<, eqb}
+use Rattle.std.proofs.Common.{◌≡◌, ℕ, zero, suc, ◌+◌, ◌-◌, ◌<◌, ◌≤◌, ◌^◌, true, cond, List, [], ◌∷◌, ◌++◌, length, take, drop, get_or, set, slice_index, Result, Ok, Err, refl, sym, ap, ◌∙◌, arith, lit<, eqb}
 use Rattle.std.proofs.lemmas.List.{take_more_set, take_more, take-append-drop, append-nil, append_assoc, drop_all, at_drop_more, length-append}
 use Rattle.std.proofs.lemmas.Bool.Decides.{nat_tests}
 use Rattle.packets.specs.declared.faults.ByteFault.{ByteFault}
@@ -146,11 +146,11 @@ hour_begun n bytes r ls count h hl = whole_hour bytes
 pub hour_no_line : (n : ℕ) (bytes : List ℕ) (r : Row) (fault : ByteFault) → n ≡ slice_index r.figures 2 → row_at heading_limits bytes 0 ≡ Ok r → lines_at n bytes r.end ≡ Err fault → whole hour_format bytes 0 ≡ Err fault
 hour_no_line n bytes r fault count h hl = hour_begun n bytes r (Err fault) count h hl
 
-over_some : (bytes : List ℕ) (at : ℕ) → at < length bytes → whole Over bytes at ≡ Err (Malformed at)
+pub over_some : (bytes : List ℕ) (at : ℕ) → at < length bytes → whole Over bytes at ≡ Err (Malformed at)
 unfolding whole
 over_some bytes at h = grind (arith, nat_tests)
 
-over_none : (bytes : List ℕ) (at : ℕ) → length bytes ≤ at → whole Over bytes at ≡ Ok []
+pub over_none : (bytes : List ℕ) (at : ℕ) → length bytes ≤ at → whole Over bytes at ≡ Ok []
 unfolding whole
 over_none bytes at h = grind (arith, nat_tests)
 

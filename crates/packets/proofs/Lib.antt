@@ -3,3 +3,4 @@ pub mod Formats
 pub mod RowSteps
 pub mod Promises
 pub mod HourSteps
+pub mod StatementSteps

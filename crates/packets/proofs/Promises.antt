@@ -1,6 +1,6 @@
 -- What reading and writing by one format promise, and rows as parts of a format. Assumes nothing.
 use Rattle.std.proofs.Common.{◌≡◌, ℕ, zero, suc, ◌+◌, ◌≤◌, Bool, true, false, cond, leb, List, [], ◌∷◌, ◌++◌, length, take, drop, get_or, Result, Ok, Err, Fits, w8, refl, sym, ap, ◌∙◌, arith}
-use Rattle.std.proofs.lemmas.List.{take_at, length-append, append_assoc}
+use Rattle.std.proofs.lemmas.List.{take_at, length-append}
 use Rattle.std.proofs.lemmas.Bool.Decides.{nat_tests}
 use Rattle.packets.specs.declared.faults.ByteFault.{ByteFault}
 use Rattle.packets.specs.declared.faults.ByteFault.TheVariants.{WrongSize, Malformed}
@@ -9,19 +9,24 @@ use Rattle.packets.specs.Numbers.{spelled, overwritten}
 use Rattle.packets.specs.Formats.{Format, Over, Field, and_then, within, figure_at, before_them, whole, sized, spelled_all, row, closed, Row, before_row, row_at, written, left_with, output_with, Spells}
 use Rattle.packets.proofs.Formats.{and_then_ok, cond_ok, only_spelling, reads_back}
 
+fits : (size length : ℕ) → size ≤ length → cond (leb size length) (Ok size) (Err WrongSize) ≡ Ok size
+fits size length room = grind (arith, nat_tests)
+
+-- figures within the format are written where there is room
+pub written_ok : (f : Format) (figures output : List ℕ) (end : ℕ) → sized f figures 0 ≡ Ok end → end ≤ length output → written f figures output ≡ Ok end
+written_ok f figures output end h room = ap (λ r. and_then r (λ size. cond (leb size (length output)) (Ok size) (Err WrongSize))) h ∙ fits end (length output) room
+
+pub output_ok : (f : Format) (figures output : List ℕ) (end : ℕ) → sized f figures 0 ≡ Ok end → end ≤ length output → output_with f figures output ≡ overwritten (spelled_all figures) output
+output_ok f figures output end h room = ap (λ r. left_with r (spelled_all figures) output) (written_ok f figures output end h room)
+
 -- bytes that read are the only ones that are written for their figures
 pub spells : (f : Format) (figures bytes : List ℕ) → ((k : ℕ) → Fits w8 (get_or bytes k 0)) → whole f bytes 0 ≡ Ok figures → Spells f figures bytes
 spells f figures bytes typed h =
     let k = only_spelling f bytes 0 figures typed (omega arith) h in
-    let fit = λ (output : List ℕ) (room : length bytes ≤ length output).
-    ap (λ r. and_then r (λ size. cond (leb size (length output)) (Ok size) (Err WrongSize))) k.1 ∙ fits (length bytes) (length output) room in
     record {
-      size = fit;
-      output = λ output room. ap (λ r. left_with r (spelled_all figures) output) (fit output room) ∙ ap (λ xs. overwritten xs output) (sym k.0);
+      size = λ output room. written_ok f figures output (length bytes) k.1 room;
+      output = λ output room. output_ok f figures output (length bytes) k.1 room ∙ ap (λ xs. overwritten xs output) (sym k.0);
     }
-  where
-    fits : (n m : ℕ) → n ≤ m → cond (leb n m) (Ok n) (Err WrongSize) ≡ Ok n
-    fits n m h = grind (arith, nat_tests)
 
 -- where figures that may be written end
 pub sized_end : (f : Format) (figures : List ℕ) (at end : ℕ) → sized f figures at ≡ Ok end → end ≡ at + length (spelled_all figures)

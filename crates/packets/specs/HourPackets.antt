@@ -1,11 +1,11 @@
 -- Hour packets: their format, and the lines and the heading that they hold. Assumes nothing.
-use Rattle.std.specs.Prelude.{ℕ, zero, suc, ◌≡◌, ◌+◌, ◌-◌, cond, List, [], ◌∷◌, ◌++◌, length, take, drop, Result, Ok, Err, ◌==◌, slice_index}
+use Rattle.std.specs.Prelude.{ℕ, zero, suc, ◌≡◌, cond, List, [], ◌∷◌, ◌++◌, length, drop, Result, Ok, Err, ◌==◌, slice_index}
 use Rattle.packets.specs.declared.faults.ByteFault.{ByteFault}
-use Rattle.packets.specs.declared.faults.ByteFault.TheVariants.{WrongSize, Malformed}
+use Rattle.packets.specs.declared.faults.ByteFault.TheVariants.{WrongSize}
 use Rattle.packets.specs.declared.rows.Limits.{Limits}
 use Rattle.packets.specs.declared.hours.PacketLine.{PacketLine}
 use Rattle.packets.specs.declared.hours.HourHeading.{HourHeading}
-use Rattle.packets.specs.Formats.{Format, Over, and_then, whole, row, Row, row_at, Spells}
+use Rattle.packets.specs.Formats.{Format, Over, and_then, whole, row, row_at, Spells}
 
 -- a number below 2 ^ 32
 abbrev pub narrow : Limits

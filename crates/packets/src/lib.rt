@@ -5,6 +5,8 @@ mod faults;
 mod hours;
 mod numbers;
 mod rows;
+mod statements;
 
 pub use faults::ByteFault;
 pub use hours::{HourHeading, PacketLine, read_hour, write_hour};
+pub use statements::{StatementFigures, read_statement, write_statement};

@@ -1,8 +1,7 @@
-use Rattle.std.proofs.Common.{◌≡◌, ℕ, ◌+◌, ◌-◌, ◌<◌, ◌≤◌, Ok, Err, length, take, set, ap, ◌∙◌, sym, arith, rules, length-set}
+use Rattle.std.proofs.Common.{◌≡◌, ◌+◌, ◌-◌, ◌<◌, ◌≤◌, Ok, Err, length, take, set, ap, ◌∙◌, sym, arith, rules, length-set}
 use Rattle.std.proofs.lemmas.List.{take_all}
 use Rattle.packets.specs.Formats.{Row, row_at, row_answer}
-use Rattle.packets.specs.declared.hours.PacketLine.{PacketLine}
-use Rattle.packets.specs.HourPackets.{line_limits, lines_at, line_of, lines_answer}
+use Rattle.packets.specs.HourPackets.{line_limits, lines_at, lines_answer}
 use Rattle.packets.proofs.HourSteps.{after_lines, lines_more, lines_fault, lines_done}
 use Rattle.packets.proofs.hours.read_lines.Goals as goal
 

@@ -1,6 +1,5 @@
-use Rattle.std.proofs.Common.{◌≡◌, ℕ, ◌<◌, ◌≤◌, Ok, Err, length, ap, ◌∙◌, sym, arith, rules, lit<, slice_index}
+use Rattle.std.proofs.Common.{◌≡◌, ◌≤◌, Ok, Err, length, ap, ◌∙◌, sym, arith, rules, lit<, slice_index}
 use Rattle.std.proofs.lemmas.List.{length-take-le, take_at}
-use Rattle.packets.specs.declared.faults.ByteFault.TheVariants.{Malformed}
 use Rattle.packets.specs.Formats.{and_then, whole, Row, row_at, row_answer}
 use Rattle.packets.specs.HourPackets.{heading_limits, hour_format, hour_figures, heading_of, lines_answer, Lines}
 use Rattle.packets.proofs.HourSteps.{hour_no_heading, hour_no_line, hour_left_over, hour_read_whole, lines_length}
