@@ -6,6 +6,8 @@ mod hours;
 mod numbers;
 mod rows;
 mod statements;
+#[cfg(test)]
+mod tests;
 
 pub use faults::ByteFault;
 pub use hours::{HourHeading, PacketLine, read_hour, write_hour};
