@@ -25,6 +25,7 @@ const LINE: [Limits; 7] = [NARROW; 7];
 /// A line as a packet carries it: raw figures, any at all.
 #[derive(Clone, Copy, PartialEq, Eq, Debug)]
 pub struct PacketLine {
+    // Kept as numbers, class and cause, since a packet only carries them: whoever posts the lines says what they may be.
     pub class: u32,
     pub cause: u32,
     pub injected: u32,

@@ -27,6 +27,7 @@ const OPENING: [Limits; 6] = [
 /// An agent's statement as a packet carries it: raw figures, any at all. The state is 0 for an open month and 1 for a closed one.
 #[derive(Clone, Copy, PartialEq, Eq, Debug)]
 pub struct StatementFigures {
+    // Kept as numbers, state and agent, by the rule that any figure is answered: one that no packet can hold is a fault to be told.
     pub state: u32,
     pub agent: u32,
     pub market: i64,
