@@ -1,0 +1,191 @@
+//! Hour packets: an hour, its price and its lines.
+ghost use Rattle.std.specs.Prelude.{ℕ, ◌≡◌, ◌≤◌, ◌<◌, ◌+◌, ◌*◌, ◌^◌, IfOk, ◌∷◌, [], length, slice_index, take};
+ghost use Rattle.packets.specs.Formats.{sized, whole, spelled_all, output_with, written};
+ghost use Rattle.packets.specs.Numbers.{overwritten};
+ghost use Rattle.packets.specs.HourPackets.{line_figures, line_of, lines_answer, lines_at, line_limits, hour_format, hour_figures, heading_in, heading_read, lines_read, HourReadsBack, HourSpelledOnce};
+
+use crate::faults::ByteFault;
+use crate::rows::{Limits, check_row, read_row, write_row};
+
+/// How many lines a packet has at most, and how many places for lines a reader is lent.
+const PLACES: usize = 64;
+
+/// A number below 2 ^ 32.
+const NARROW: Limits = Limits {
+    least: 0,
+    most: 4_294_967_295,
+};
+
+/// The hour, the price and the number of lines.
+const HEADING: [Limits; 3] = [NARROW, NARROW, Limits { least: 1, most: 64 }];
+
+/// The numbers of a line.
+const LINE: [Limits; 7] = [NARROW; 7];
+
+/// A line as a packet carries it: raw figures, any at all.
+#[derive(Clone, Copy, PartialEq, Eq, Debug)]
+pub struct PacketLine {
+    // Kept as numbers, class and cause, since a packet only carries them: whoever posts the lines says what they may be.
+    pub class: u32,
+    pub cause: u32,
+    pub injected: u32,
+    pub withdrawn: u32,
+    pub gross: u32,
+    pub factor: u32,
+    pub cost: u32,
+}
+
+/// What a packet says before its lines, and how many those are.
+#[derive(Clone, Copy, PartialEq, Eq, Debug)]
+pub struct HourHeading {
+    pub hour: u32,
+    pub price: u32,
+    pub count: usize,
+}
+
+impl PacketLine {
+    /// A line of no figures.
+    const NONE: PacketLine = PacketLine {
+        class: 0,
+        cause: 0,
+        injected: 0,
+        withdrawn: 0,
+        gross: 0,
+        factor: 0,
+        cost: 0,
+    };
+
+    /// The figures of the line, in their order.
+    fn figures(&self) -> [u64; 7]
+        ensures { result ≡ line_figures self.now }
+    {
+        [
+            u64::from(self.class),
+            u64::from(self.cause),
+            u64::from(self.injected),
+            u64::from(self.withdrawn),
+            u64::from(self.gross),
+            u64::from(self.factor),
+            u64::from(self.cost),
+        ]
+    }
+
+    /// The line of these figures.
+    fn of(figures: &[u64; 7]) -> PacketLine
+        requires { (k : ℕ) → slice_index figures.now k < 2 ^ 32 }
+        ensures { result ≡ line_of figures.now }
+    {
+        let [class, cause, injected, withdrawn, gross, factor, cost] = *figures;
+        PacketLine {
+            class: class as u32,
+            cause: cause as u32,
+            injected: injected as u32,
+            withdrawn: withdrawn as u32,
+            gross: gross as u32,
+            factor: factor as u32,
+            cost: cost as u32,
+        }
+    }
+}
+
+/// Reads as many lines as there are places for, from this byte on, and answers where they end.
+fn read_lines(bytes: &[u8], from: usize, lines: &mut [PacketLine]) -> Result<usize, ByteFault>
+    requires near { from + 70 * length lines.old < 2 ^ 32 }
+    requires among { from ≤ length bytes.now }
+    ensures value { lines_answer lines.new result ≡ lines_at (length lines.old) bytes.now from }
+    ensures near { IfOk result (λ end. end ≤ from + 70 * length lines.old) }
+    ensures among { IfOk result (λ end. end ≤ length bytes.now) }
+{
+    let mut at = from;
+    for i in 0..lines.len() {
+        let mut figures = [0; 7];
+        at = read_row(&LINE, bytes, at, &mut figures)?;
+        lines[i] = PacketLine::of(&figures);
+    }
+    Ok(at)
+}
+
+/// Reads an hour packet into 64 places, of which nothing is said on a refusal.
+fn read_packet(bytes: &[u8], places: &mut [PacketLine]) -> Result<HourHeading, ByteFault>
+    requires { length places.old ≡ 64 }
+    ensures value { result ≡ heading_in bytes.now }
+    ensures few { IfOk result (λ heading. heading.count ≤ 64) }
+    ensures figures { IfOk result (λ heading. whole hour_format bytes.now 0 ≡ Ok (hour_figures heading.hour heading.price (take heading.count places.new))) }
+{
+    let mut figures = [0; 3];
+    let from = read_row(&HEADING, bytes, 0, &mut figures)?;
+    let [hour, price, count] = figures;
+    let count = count as usize;
+    let end = read_lines(bytes, from, &mut places[..count])?;
+    if end < bytes.len() {
+        return Err(ByteFault::Malformed(end as u32));
+    }
+    Ok(HourHeading {
+        hour: hour as u32,
+        price: price as u32,
+        count,
+    })
+}
+
+/// Reads an hour packet into 64 places for lines. The places past its lines, and on a refusal all of them, stay as they were.
+pub fn read_hour(bytes: &[u8], lines: &mut [PacketLine]) -> Result<HourHeading, ByteFault>
+    ensures value { result ≡ heading_read bytes.now lines.old }
+    ensures lines { lines.new ≡ lines_read bytes.now lines.old }
+    ensures once { IfOk result (λ heading. HourSpelledOnce heading.hour heading.price (take heading.count lines.new) bytes.now) }
+{
+    if lines.len() != PLACES {
+        return Err(ByteFault::WrongSize);
+    }
+    let mut read = [PacketLine::NONE; PLACES];
+    let heading = read_packet(bytes, &mut read)?;
+    lines[..heading.count].copy_from_slice(&read[..heading.count]);
+    Ok(heading)
+}
+
+/// The figures before the lines.
+fn heading_figures(hour: u32, price: u32, count: usize) -> [u64; 3]
+    ensures { result ≡ hour ∷ price ∷ count ∷ [] }
+{
+    [u64::from(hour), u64::from(price), count as u64]
+}
+
+/// How many bytes an hour packet of these figures has.
+fn size_of_hour(hour: u32, price: u32, lines: &[PacketLine]) -> Result<usize, ByteFault>
+    ensures { result ≡ sized hour_format (hour_figures hour price lines.now) 0 }
+{
+    let mut end = check_row(&HEADING, &heading_figures(hour, price, lines.len()), 0)?;
+    for line in lines {
+        end = check_row(&LINE, &line.figures(), end)?;
+    }
+    Ok(end)
+}
+
+/// Writes an hour packet over the first bytes of an output that has room for it.
+fn put_hour(hour: u32, price: u32, lines: &[PacketLine], output: &mut [u8])
+    requires { length (spelled_all (hour_figures hour price lines.now)) ≤ length output.old }
+    ensures { output.new ≡ overwritten (spelled_all (hour_figures hour price lines.now)) output.old }
+{
+    let mut at = write_row(&heading_figures(hour, price, lines.len()), output);
+    for line in lines {
+        at += write_row(&line.figures(), &mut output[at..]);
+    }
+}
+
+/// Writes an hour packet over the first bytes of an output, and answers how many those are. A refusal leaves the output as it was.
+pub fn write_hour(
+    hour: u32,
+    price: u32,
+    lines: &[PacketLine],
+    output: &mut [u8],
+) -> Result<usize, ByteFault>
+    ensures value { result ≡ written hour_format (hour_figures hour price lines.now) output.old }
+    ensures output { output.new ≡ output_with hour_format (hour_figures hour price lines.now) output.old }
+    ensures back { IfOk result (λ size. HourReadsBack hour price lines.now (take size output.new)) }
+{
+    let end = size_of_hour(hour, price, lines)?;
+    if output.len() < end {
+        return Err(ByteFault::WrongSize);
+    }
+    put_hour(hour, price, lines, output);
+    Ok(end)
+}
