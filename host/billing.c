@@ -1,4 +1,5 @@
-/* A small host of the billing library: it meters a good day and damaged ones, and says what was answered, one fact to a line. */
+/* A small host of the billing library: it meters a good day and damaged ones, checks good and damaged packets of a statement, and says what was answered,
+ * one fact to a line. */
 #include <inttypes.h>
 #include <stdio.h>
 #include <string.h>
@@ -52,7 +53,9 @@ static const char *words_of(uint32_t number)
     case GIBZURG_DUMP_LENGTH:
         return "the dump is not as long as that of a day";
     case GIBZURG_QUARTER:
-        return "a channel, gross or net energy of a quarter is outside its limit";
+        return "a quarter's channel, gross or net energy is outside its limit";
+    case GIBZURG_MALFORMED:
+        return "no number that the format allows starts there, or bytes are left over";
     default:
         return "a fault that has no words";
     }
@@ -102,6 +105,67 @@ static void tell_hours(const char *day)
     }
 }
 
+/* The figures of a statement, in the order of its packet; the lines and the balance with their signs. */
+enum { STATE, AGENT, MARKET, CONTRACTS, OVERCOST, POWER, BALANCE, INJECTED, WITHDRAWN, PEAK, PEAK_HOUR, FIGURES };
+
+static const int64_t STATEMENT[FIGURES] = {0, 2, -593640, 10000, 0, 0, -583640, 0, 970, 970, 8};
+
+static uint8_t packet[FIGURES * 10 + 1];
+
+static size_t put_groups(uint8_t *bytes, uint64_t number)
+{
+    size_t length = 0;
+    for (; number >= 128; number /= 128) {
+        bytes[length++] = number % 128 + 128;
+    }
+    bytes[length++] = number;
+    return length;
+}
+
+/* Writes the packet of the statement, with one of its figures changed, and gives its length. */
+static size_t write_packet(int changed, int64_t figure)
+{
+    size_t length = 0;
+    for (int place = 0; place < FIGURES; place++) {
+        int64_t value = place == changed ? figure : STATEMENT[place];
+        int is_signed = place >= MARKET && place <= BALANCE;
+        uint64_t number = is_signed ? (value < 0 ? 2 * (uint64_t)(-1 - value) + 1 : 2 * (uint64_t)value) : (uint64_t)value;
+        length += put_groups(packet + length, number);
+    }
+    return length;
+}
+
+static void check(const char *name, size_t length)
+{
+    gibzurg_answer answer = gibzurg_check_statement(packet, length);
+    if (answer.number == 0) {
+        printf("%s: accepted\n", name);
+    } else {
+        printf("%s: refused with fault %" PRIu32 " at place %" PRIu32 ": %s\n", name, answer.number, answer.place, words_of(answer.number));
+    }
+}
+
+static void check_packets(void)
+{
+    size_t length = write_packet(STATE, 0);
+    check("good packet", length);
+    check("packet of no byte", 0);
+    check("packet of a byte too few", length - 1);
+    packet[length] = 0;
+    check("packet of a byte too many", length + 1);
+    check("packet of a closed month", write_packet(STATE, 1));
+    check("packet of a third state", write_packet(STATE, 2));
+    check("packet of agent 0", write_packet(AGENT, 0));
+    check("packet of agent 64", write_packet(AGENT, 64));
+    check("packet of agent 65", write_packet(AGENT, 65));
+    check("packet of a balance of a point more", write_packet(BALANCE, STATEMENT[BALANCE] + 1));
+    check("packet of a market line of a point more", write_packet(MARKET, STATEMENT[MARKET] + 1));
+    length = write_packet(PEAK_HOUR, 8);
+    packet[length - 1] = 0x88;
+    packet[length] = 0;
+    check("packet of a group too many", length + 1);
+}
+
 int main(void)
 {
     fill_good_day();
@@ -121,5 +185,6 @@ int main(void)
     meter_damaged("no gross energy, and net energy, in quarter 71", 71, GROSS_RECEIVED, 50071);
     meter_damaged("net energy of all gross energy in quarter 40", 40, NET_DELIVERED, 49840);
     meter_damaged("net energy above gross in quarter 40", 40, NET_DELIVERED, 49841);
+    check_packets();
     return 0;
 }

@@ -24,6 +24,9 @@ extern "C" {
 #define GIBZURG_DUMP_LENGTH 15
 #define GIBZURG_QUARTER 16
 
+/* The fault of a packet. */
+#define GIBZURG_MALFORMED 17
+
 /* What a call answers: the number and the place of its fault, or 0 and 0 where there is none. */
 typedef struct {
     uint32_t number;
@@ -36,6 +39,13 @@ typedef struct {
  * Refused with 1 if the output has fewer than 384 bytes, with 15 if the dump has not 1,536, and with 16 at the first quarter, counted from 0, that has a
  * number above 1,000,000, gross energy below 0, or net above gross energy. A refusal leaves the output as it was; else what lies past the hours stays. */
 gibzurg_answer gibzurg_meter_day(const uint8_t *dump, size_t dump_length, uint8_t *output, size_t output_length);
+
+/* Checks the packet of an agent's statement: the state, 0 for an open month and 1 for a closed one, the agent, 1 to 64, four lines, their sum as the
+ * balance, injected and withdrawn energy, the peak in kWh and its hour, each as a number in groups of seven bits, the lowest first.
+ *
+ * Refused with 17 at the byte, counted from 0, where a number starts that is too large, cut off, written in more groups than needed or outside its limits,
+ * or no sum where the balance stands, or where bytes are left over. */
+gibzurg_answer gibzurg_check_statement(const uint8_t *bytes, size_t length);
 
 #ifdef __cplusplus
 }

@@ -3,16 +3,8 @@ ghost use Rattle.std.specs.Prelude.{◌≡◌};
 ghost use Rattle.meter.specs.Days.{AddsUp};
 ghost use Rattle.billing.specs.Meters.{metered_of, day_metered};
 
+use crate::answers::Answer;
 use meter::read_day;
-
-/// What a call answers: the number and the place of its fault, or 0 and 0 where there is none.
-// Kept as numbers, since C looks faults up by number and place.
-#[repr(C)]
-#[derive(Clone, Copy, PartialEq, Eq, Debug)]
-pub struct Answer {
-    pub number: u32,
-    pub place: u32,
-}
 
 /// Checks the dump of a day, 1,536 bytes, and writes its 24 hours into the first 384 bytes of the output. A refusal leaves all of it as it was.
 #[unsafe(no_mangle)]
