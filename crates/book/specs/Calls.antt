@@ -8,13 +8,16 @@ use Rattle.tally.specs.Peak.{peak_of, no_peak, peak_joined}
 use Rattle.tally.specs.Total.{total}
 use Rattle.forms.specs.declared.Contract.{Contract}
 use Rattle.forms.specs.Meaning.{Meaning}
+use Rattle.packets.specs.declared.faults.ByteFault.{ByteFault}
 use Rattle.settlement.specs.declared.lines.Line.{Line}
 use Rattle.settlement.specs.declared.faults.BookFault.{BookFault}
-use Rattle.settlement.specs.declared.faults.BookFault.TheVariants.{OutsideBook, NoCarrier, FreeHour, MissingHour, NoPowerCarrier}
+use Rattle.settlement.specs.declared.faults.LineFault.TheVariants.{Packet}
+use Rattle.settlement.specs.declared.faults.BookFault.TheVariants.{Posting, OutsideBook, NoCarrier, FreeHour, MissingHour, NoPowerCarrier}
 use Rattle.settlement.specs.Agents.{agent_fits}
 use Rattle.settlement.specs.ContractFaults.{taken_fault, vacant_fault, terms_fault, covered_fault, covered_in, place_at}
 use Rattle.settlement.specs.Faults.{met_if, first_met, of_posting, answer_of}
 use Rattle.settlement.specs.Holdings.{Holding, no_holding, holding_joined, holding_undone, withdrawn_on, entry_of, power_points}
+use Rattle.settlement.specs.Packets.{PostedHour, posting_in}
 use Rattle.settlement.specs.Pool.{Pool, pool_of, hour_of}
 use Rattle.settlement.specs.PostingFaults.{hour_fault, line_fault, uncarried}
 use Rattle.settlement.specs.Power.{power_uncarried, power_line}
@@ -103,6 +106,23 @@ abbrev pub posted : Meaning → MonthFigures → (hour price : ℕ) → List Lin
 posted form f hour price lines m =
     outcome (post_fault form f hour price lines m) tt m
     (rewritten (hours_of f.days) hour 1 (λ i. entry_of (hour_of (pool_in form f m) hour price lines i)) m)
+
+-- ---- posting a packet
+
+-- the faults of bytes that are no packet: the memory's size, and then what is wrong with the bytes
+abbrev pub unread_fault : MonthFigures → ByteFault → Memory → Option BookFault
+unread_fault f fault m = first_met (size_fault f.agents (hours_of f.days) m ∷ Some (Posting (Packet fault)) ∷ [])
+
+abbrev pub unread : MonthFigures → ByteFault → Memory → Outcome (Unit {0})
+unread f fault m = outcome (unread_fault f fault m) tt m m
+
+-- a packet is posted as the hour, price and lines that it says
+abbrev pub read_posted : Meaning → MonthFigures → Result PostedHour ByteFault → Memory → Outcome (Unit {0})
+read_posted form f (Ok p) m = posted form f p.hour p.price p.lines m
+read_posted form f (Err fault) m = unread f fault m
+
+abbrev pub packet_posted : Meaning → MonthFigures → (bytes : List ℕ) → Memory → Outcome (Unit {0})
+packet_posted form f bytes m = read_posted form f (posting_in bytes) m
 
 -- ---- withdrawal
 

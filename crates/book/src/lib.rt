@@ -18,7 +18,7 @@ pub use entering::{cancel, enter};
 pub use memory::{Ledger, Pool, View};
 pub use months::{ClosedMonth, MonthFigures, OpenMonth};
 pub use opening::open;
-pub use posting::{post, withdraw};
+pub use posting::{post, post_packet, withdraw};
 pub use settlement::{Account, Agent, BookFault, Entry, Line, LineFault};
 pub use statements::Statement;
 pub use views::{day_total, final_statement, provisional};

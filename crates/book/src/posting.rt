@@ -1,11 +1,11 @@
-//! Posting an hour, and withdrawing it.
+//! Posting an hour, from lines or from a packet, and withdrawing it.
 ghost use Rattle.std.specs.Prelude.{◌≡◌, ◌*◌, true, length};
 ghost use Rattle.std.specs.List.{list_all};
 ghost use Rattle.calendar.specs.Weekdays.{number_of};
 ghost use Rattle.settlement.specs.ContractFaults.{place_fits};
 ghost use Rattle.settlement.specs.Holdings.{entry_of};
 ghost use Rattle.settlement.specs.Pool.{pool_of, hour_of};
-ghost use Rattle.book.specs.Calls.{outcome_of, posted, withdrawn, entries_with, accounts_with};
+ghost use Rattle.book.specs.Calls.{outcome_of, posted, packet_posted, withdrawn, entries_with, accounts_with};
 ghost use Rattle.book.specs.Lent.{memory_in, SameLoan};
 ghost use Rattle.book.specs.Months.{figures_of, hours_of};
 
@@ -14,7 +14,7 @@ use crate::months::OpenMonth;
 use crate::rewrites::replace_hour;
 use calendar::Weekday;
 use forms::{Contract, ContractForm};
-use settlement::{Account, BookFault, Entry, Line, MeasuredPosting};
+use settlement::{Account, BookFault, Entry, Line, MeasuredPosting, PacketPosting};
 use tally::{Pair, Tally};
 
 // Kept as numbers, as the marks of lent memory are (fixed memory).
@@ -78,6 +78,31 @@ pub fn post<F: ContractForm>(
     );
     ledger.marks[hour as usize] = POSTED;
     Ok(())
+}
+
+/// Posts an hour that comes as a packet, as the lines that it says would be posted. Memory of the wrong size is told first, then bytes that are no
+/// packet, then the fault with the smallest number.
+pub fn post_packet<F: ContractForm>(
+    month: &OpenMonth,
+    form: &F,
+    bytes: &[u8],
+    pool: &Pool<'_>,
+    ledger: &mut Ledger<'_>,
+) -> Result<(), BookFault>
+    ensures lent { SameLoan ledger.old ledger.new }
+    ensures value { outcome_of result (memory_in pool.now ledger.new) ≡ packet_posted (F.meaning form.now) (figures_of month.now) bytes.now (memory_in pool.now ledger.old) }
+{
+    ledger.view(pool).check_size(&month.month)?;
+    let posting = PacketPosting::read(bytes)?;
+    post(
+        month,
+        form,
+        posting.hour,
+        posting.price,
+        posting.lines(),
+        pool,
+        ledger,
+    )
 }
 
 /// Withdraws an hour's posting: the hour is free, and its entries are neutral.

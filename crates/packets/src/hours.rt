@@ -45,7 +45,7 @@ pub struct HourHeading {
 
 impl PacketLine {
     /// A line of no figures.
-    const NONE: PacketLine = PacketLine {
+    pub const NONE: PacketLine = PacketLine {
         class: 0,
         cause: 0,
         injected: 0,
@@ -131,6 +131,7 @@ fn read_packet(bytes: &[u8], places: &mut [PacketLine]) -> Result<HourHeading, B
 pub fn read_hour(bytes: &[u8], lines: &mut [PacketLine]) -> Result<HourHeading, ByteFault>
     ensures value { result ≡ heading_read bytes.now lines.old }
     ensures lines { lines.new ≡ lines_read bytes.now lines.old }
+    ensures few { IfOk result (λ heading. heading.count ≤ 64) }
     ensures once { IfOk result (λ heading. HourSpelledOnce heading.hour heading.price (take heading.count lines.new) bytes.now) }
 {
     if lines.len() != PLACES {

@@ -8,3 +8,4 @@ pub mod Together
 pub mod Settles
 pub mod Points
 pub mod Powers
+pub mod Packets

@@ -1,19 +1,23 @@
 -- The faults by number and place, and how one of several is answered. Assumes nothing.
 use Rattle.std.specs.Prelude.{ℕ, Bool, cond, List, [], ◌∷◌, Some, None, Ok, Err, Option, Result}
+use Rattle.packets.specs.declared.faults.ByteFault.{ByteFault}
+use Rattle.packets.specs.Faults.{number_of as byte_number, place_of as byte_place}
 use Rattle.settlement.specs.declared.faults.LineFault.{LineFault}
-use Rattle.settlement.specs.declared.faults.LineFault.TheVariants.{HourOutside, OutsideLimit, BreaksRule, TooMuchTogether}
+use Rattle.settlement.specs.declared.faults.LineFault.TheVariants.{Packet, HourOutside, OutsideLimit, BreaksRule, TooMuchTogether}
 use Rattle.settlement.specs.declared.faults.BookFault.{BookFault}
 use Rattle.settlement.specs.declared.faults.BookFault.TheVariants.{WrongSize, StoredOutside, OutsideBook, Posting, NoCarrier, FreeHour, MissingHour, NoPowerCarrier, ContractNumber, ContractTerms, CoveredHour}
 
--- the number of a fault in a posting's own figures
+-- the number of a fault in a posting's bytes or its own figures
 abbrev pub line_number : LineFault → ℕ
+line_number (Packet fault) = byte_number fault
 line_number (HourOutside hour) = 4
 line_number (OutsideLimit place) = 5
 line_number (BreaksRule place) = 6
 line_number TooMuchTogether = 7
 
--- its place: the hour, or the line from 1
+-- its place: the byte from 0, the hour, or the line from 1
 abbrev pub line_place : LineFault → ℕ
+line_place (Packet fault) = byte_place fault
 line_place (HourOutside hour) = hour
 line_place (OutsideLimit place) = place
 line_place (BreaksRule place) = place

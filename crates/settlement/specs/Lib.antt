@@ -8,3 +8,4 @@ pub mod Pool
 pub mod Holdings
 pub mod PostingFaults
 pub mod Power
+pub mod Packets

@@ -2,11 +2,15 @@
 
 pub mod numbers;
 
+use packets::ByteFault;
 use thiserror::Error;
 
-/// What is wrong with a posting's own figures.
+/// What is wrong with a posting's own figures, or with the bytes that it came as.
 #[derive(Clone, Copy, PartialEq, Eq, Debug, Error)]
 pub enum LineFault {
+    /// The bytes of a posting are no packet.
+    #[error(transparent)]
+    Packet(ByteFault),
     /// The hour lies outside the month.
     #[error("the hour is outside the month")]
     HourOutside(u32),

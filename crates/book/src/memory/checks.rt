@@ -98,13 +98,21 @@ impl View<'_, '_> {
             && all_withdrawn(self.accounts) <= MOST_OF_A_MONTH
     }
 
-    /// Refuses memory of another size than the month's, or with a stored figure outside its limit.
-    pub(crate) fn check<F: ContractForm>(&self, form: &F, month: &Month) -> Result<(), BookFault>
-        ensures { result_err result ≡ first_met (size_fault month.now.agents (hours_of month.now.days) (memory_seen self.now) ∷ stored_fault (F.meaning form.now) (hours_of month.now.days) (memory_seen self.now) ∷ []) }
+    /// Refuses memory of another size than the month's.
+    pub(crate) fn check_size(&self, month: &Month) -> Result<(), BookFault>
+        ensures { result_err result ≡ size_fault month.now.agents (hours_of month.now.days) (memory_seen self.now) }
     {
         if !self.is_sized(month.agents, month.days) {
             return Err(BookFault::WrongSize);
         }
+        Ok(())
+    }
+
+    /// Refuses memory of another size than the month's, or with a stored figure outside its limit.
+    pub(crate) fn check<F: ContractForm>(&self, form: &F, month: &Month) -> Result<(), BookFault>
+        ensures { result_err result ≡ first_met (size_fault month.now.agents (hours_of month.now.days) (memory_seen self.now) ∷ stored_fault (F.meaning form.now) (hours_of month.now.days) (memory_seen self.now) ∷ []) }
+    {
+        self.check_size(month)?;
         if !self.is_within_limits(form, month.hours()) {
             return Err(BookFault::StoredOutside);
         }

@@ -1,9 +1,11 @@
 //! The number and the place of each fault.
 ghost use Rattle.std.specs.Prelude.{◌≡◌};
 ghost use Rattle.settlement.specs.declared.faults.BookFault.TheVariants.{Posting};
+ghost use Rattle.settlement.specs.declared.faults.LineFault.TheVariants.{Packet};
 ghost use Rattle.settlement.specs.Faults.{line_number, line_place, number_of, place_of};
 
 use crate::faults::{BookFault, LineFault};
+use packets::ByteFault;
 
 // Kept as numbers by the rules of the pool: bookkeepers look faults up by number and place, and a fault that has no place is told at 0.
 
@@ -12,7 +14,8 @@ impl LineFault {
     pub fn number(&self) -> u32
         ensures { result ≡ line_number self.now }
     {
-        match *self {
+        match self {
+            LineFault::Packet(fault) => fault.number(),
             LineFault::HourOutside(_) => 4,
             LineFault::OutsideLimit(_) => 5,
             LineFault::BreaksRule(_) => 6,
@@ -20,14 +23,14 @@ impl LineFault {
         }
     }
 
-    /// The hour, or the line from 1; 0 where there is none.
+    /// The byte from 0, the hour, or the line from 1; 0 where there is none.
     pub fn place(&self) -> u32
         ensures { result ≡ line_place self.now }
     {
-        match *self {
-            LineFault::HourOutside(hour) => hour,
-            LineFault::OutsideLimit(line) => line,
-            LineFault::BreaksRule(line) => line,
+        match self {
+            LineFault::Packet(fault) => fault.place(),
+            LineFault::HourOutside(hour) => *hour,
+            LineFault::OutsideLimit(line) | LineFault::BreaksRule(line) => *line,
             LineFault::TooMuchTogether => 0,
         }
     }
@@ -53,7 +56,7 @@ impl BookFault {
         }
     }
 
-    /// The hour, or the line from 1; 0 where there is none.
+    /// The byte from 0, the hour, or the line from 1; 0 where there is none.
     pub fn place(&self) -> u32
         ensures { result ≡ place_of self.now }
     {
@@ -73,8 +76,18 @@ impl BookFault {
     }
 }
 
+// Kept by hand, both: `#[from]` is no plainer for who proves, since it has no contract, and clauses name the error that `?` makes.
+
+/// A fault of the bytes is carried whole.
+impl From<ByteFault> for LineFault {
+    ghost from_gives = { λ fault r. r ≡ Packet fault };
+
+    fn from(fault: ByteFault) -> LineFault {
+        LineFault::Packet(fault)
+    }
+}
+
 /// A posting's own fault is carried whole.
-// Kept by hand: `#[from]` is no plainer for who proves, since it has no contract, and clauses name the error that `?` makes.
 impl From<LineFault> for BookFault {
     ghost from_gives = { λ fault r. r ≡ Posting fault };
 

@@ -1,0 +1,46 @@
+-- The posting that an hour packet says. Assumes nothing.
+use Rattle.std.specs.Prelude.{ℕ, List, map, drop, take, Ok, Err, Result, slice_index}
+use Rattle.packets.specs.declared.faults.ByteFault.{ByteFault}
+use Rattle.packets.specs.declared.hours.PacketLine.{PacketLine}
+use Rattle.packets.specs.Formats.{and_then, whole}
+use Rattle.packets.specs.HourPackets.{hour_format, lines_of}
+use Rattle.settlement.specs.declared.faults.LineFault.{LineFault}
+use Rattle.settlement.specs.declared.faults.LineFault.TheVariants.{Packet}
+use Rattle.settlement.specs.declared.lines.Line.{Line}
+use Rattle.settlement.specs.declared.packet_postings.PacketPosting.{PacketPosting}
+
+-- an hour to be posted: its price and its lines
+pub record PostedHour : Type 0 where
+  pub hour : ℕ
+  pub price : ℕ
+  pub lines : List Line
+
+-- the line of a posting that the line of a packet says
+abbrev pub line_in : PacketLine → Line
+line_in l = record { class = l.class; cause = l.cause; injected = l.injected; withdrawn = l.withdrawn; gross = l.gross; factor = l.factor; cost = l.cost }
+
+-- what the figures of a packet say: hour and price, and after the number of lines the lines
+abbrev pub posting_of : List ℕ → PostedHour
+posting_of figures = record {
+  hour = slice_index figures 0;
+  price = slice_index figures 1;
+  lines = map line_in (lines_of (slice_index figures 2) (drop 3 figures));
+}
+
+-- what bytes say: the posting of the one packet that they are, or where they are none
+abbrev pub posting_in : List ℕ → Result PostedHour ByteFault
+posting_in bytes = and_then (whole hour_format bytes 0) (λ figures. Ok (posting_of figures))
+
+-- a fault of the bytes is carried whole
+abbrev pub of_bytes : Result PostedHour ByteFault → Result PostedHour LineFault
+of_bytes (Ok p) = Ok p
+of_bytes (Err fault) = Err (Packet fault)
+
+-- a posting as it is kept: of the places for lines, so many are used
+abbrev pub hour_in : PacketPosting → PostedHour
+hour_in p = record { hour = p.hour; price = p.price; lines = take p.count p.lines }
+
+-- and one that was read
+abbrev pub hour_read : Result PacketPosting LineFault → Result PostedHour LineFault
+hour_read (Ok p) = Ok (hour_in p)
+hour_read (Err fault) = Err fault
