@@ -10,7 +10,7 @@ use Rattle.book.specs.Calls.{open_fault}
 use Rattle.book.specs.Memory.{Memory}
 use Rattle.book.specs.Months.{hours_of}
 use Rattle.standing.specs.Law.{Book, Ran, Settled, is_done}
-use Rattle.standing.specs.Requests.{Opening, Posting, Request, posting, withdrawal, entering, cancelling, closing, statement, without_contracts, told_without}
+use Rattle.standing.specs.Requests.{Opening, Posting, Request, posting, unread, withdrawal, entering, cancelling, closing, statement, without_contracts, told_without}
 use Rattle.standing.specs.Standing.{State, open', closed, is_closed, Standing, nothing_stands, after, entries_of, posting_at, postings_of, closing_of, only_standing}
 use Rattle.standing.specs.Worked.{Reply, residue_from, residue_after}
 use Rattle.standing.proofs.Lawful.{settled}
@@ -38,6 +38,7 @@ book_same p q r = λ t. book_of (p t) (q t) (r t)
 -- what an accepted request leaves is measured, if it is and what stood was
 left_measured : (hour : ℕ) (before : Option Request) (r : Request) → StandsMeasured before → Postable r → StandsMeasured (stands_left hour before r)
 left_measured hour before (posting h p) stood is = elim (eqb h hour) as (λ same. StandsMeasured (cond same (Some (posting h p)) before)) [ true ↦ is | false ↦ stood ]
+left_measured hour before (unread fault) stood is = stood
 left_measured hour before (withdrawal h) stood is = elim (eqb h hour) as (λ same. StandsMeasured (cond same None before)) [ true ↦ tt | false ↦ stood ]
 left_measured hour before (entering number c) stood is = stood
 left_measured hour before (cancelling number) stood is = stood

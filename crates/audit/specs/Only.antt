@@ -1,8 +1,8 @@
 -- Only what stands in a book, as its answers tell it: the requests that a book is to hear anew. Assumes nothing.
-use Rattle.std.specs.Prelude.{ℕ, zero, suc, ◌+◌, Bool, cond, List, [], ◌∷◌, ◌++◌, ℤ, pos, Some, None, Option}
+use Rattle.std.specs.Prelude.{ℕ, zero, suc, ◌+◌, ◌==◌, Bool, false, cond, List, [], ◌∷◌, ◌++◌, ℤ, pos, Some, None, Option}
 use Rattle.forms.specs.declared.Contract.{Contract}
 use Rattle.settlement.specs.Hour.{residue_of}
-use Rattle.standing.specs.Requests.{Request, posting, withdrawal, entering, cancelling, closing, statement}
+use Rattle.standing.specs.Requests.{Request, posting, unread, withdrawal, entering, cancelling, closing, statement}
 use Rattle.standing.specs.Standing.{entries_of}
 use Rattle.standing.specs.Worked.{Reply}
 use Rattle.runs.specs.Told.{stands_told, Postable}
@@ -25,10 +25,21 @@ closing_if closes = cond closes (closing ∷ []) []
 abbrev pub only_told : (hours : ℕ) → List (Option Contract) → List Request → List Reply → (closes : Bool) → List Request
 only_told hours places requests told closes = entries_of 1 places ++ (postings_told requests told 0 hours ++ closing_if closes)
 
+-- whether a request posts this hour
+abbrev pub posts_at : (hour : ℕ) → Request → Bool
+posts_at hour (posting h p) = h == hour
+posts_at hour (unread fault) = false
+posts_at hour (withdrawal h) = false
+posts_at hour (entering number c) = false
+posts_at hour (cancelling number) = false
+posts_at hour closing = false
+posts_at hour (statement agent) = false
+
 -- the residue of what stands at an hour
 abbrev pub residue_in : Option Request → ℤ
 residue_in None = pos 0
 residue_in (Some (posting hour p)) = residue_of p.price p.lines
+residue_in (Some (unread fault)) = pos 0
 residue_in (Some (withdrawal hour)) = pos 0
 residue_in (Some (entering number c)) = pos 0
 residue_in (Some (cancelling number)) = pos 0

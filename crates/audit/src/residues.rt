@@ -1,16 +1,28 @@
 //! What stands at each hour, as the answers tell it, and the residue of the standing hours, worked from their postings alone.
-ghost use Rattle.std.specs.Prelude.{◌≡◌, ℕ, ◌≤◌, map, None, unsigned_abs};
+ghost use Rattle.std.specs.Prelude.{◌≡◌, ℕ, ◌≤◌, map, Some, None, unsigned_abs};
 ghost use Rattle.std.specs.Option.{option_map, option_copied};
 ghost use Rattle.settlement.specs.Hour.{residue_of};
+ghost use Rattle.settlement.specs.Packets.{posting_in};
 ghost use Rattle.settlement.specs.PostingFaults.{Measured};
 ghost use Rattle.settlement.specs.Sums.{sum_to_ℤ};
-ghost use Rattle.runs.specs.Reading.{request_of, reply_of};
+ghost use Rattle.runs.specs.Reading.{request_in, request_of, reply_of};
 ghost use Rattle.runs.specs.Told.{stands_left, stands_told, Postable};
-ghost use Rattle.audit.specs.Only.{residue_in, StandsMeasured};
+ghost use Rattle.audit.specs.Only.{posts_at, residue_in, StandsMeasured};
 
 use book::Line;
 use runs::{Answer, Call, is_accepted};
+use settlement::PacketPosting;
 use valuation::amount;
+
+/// Whether bytes are a packet that says this hour.
+fn does_say(bytes: &[u8], hour: u32) -> bool
+    ensures { result ≡ posts_at hour (request_in (posting_in bytes.now)) }
+{
+    match PacketPosting::read(bytes) {
+        Ok(posting) => posting.hour == hour,
+        Err(_) => false,
+    }
+}
 
 /// Which call's posting an accepted call leaves at an hour, where it was `before`.
 fn posting_left<'c>(call: &'c Call, hour: u32, before: Option<&'c Call>) -> Option<&'c Call>
@@ -18,8 +30,10 @@ fn posting_left<'c>(call: &'c Call, hour: u32, before: Option<&'c Call>) -> Opti
 {
     match call {
         Call::Post(posting) if posting.hour == hour => Some(call),
+        Call::Packet(bytes) if does_say(bytes, hour) => Some(call),
         Call::Withdraw(at) if *at == hour => None,
         Call::Post(_)
+        | Call::Packet(_)
         | Call::Withdraw(_)
         | Call::Enter { .. }
         | Call::Cancel(_)
@@ -61,6 +75,18 @@ fn posting_residue(price: u32, lines: &[Line]) -> i64
     withdrawn as i64 - injected as i64
 }
 
+/// The residue of the posting that bytes say.
+fn packet_residue(bytes: &[u8]) -> i64
+    requires { Postable (request_in (posting_in bytes.now)) }
+    ensures value { result ≡ residue_in (Some (request_in (posting_in bytes.now))) }
+    ensures bound { unsigned_abs result ≤ 7680000000000 }
+{
+    match PacketPosting::read(bytes) {
+        Ok(posting) => posting_residue(posting.price, posting.lines()),
+        Err(_) => 0,
+    }
+}
+
 /// The residue of an hour, from the posting that stands there.
 fn hour_residue(hour: u32, calls: &[Call], answers: &[Answer]) -> i64
     requires { StandsMeasured (stands_told hour None (map request_of calls.now) (map reply_of answers.now)) }
@@ -69,6 +95,7 @@ fn hour_residue(hour: u32, calls: &[Call], answers: &[Answer]) -> i64
 {
     match standing_posting(hour, calls, answers) {
         Some(Call::Post(posting)) => posting_residue(posting.price, &posting.lines),
+        Some(Call::Packet(bytes)) => packet_residue(bytes),
         Some(_) | None => 0,
     }
 }

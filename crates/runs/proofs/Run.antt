@@ -3,7 +3,7 @@ use Rattle.std.proofs.Common.{◌≡◌, ℕ, Bool, true, false, cond, not, ◌&
 use Rattle.std.proofs.lemmas.Bool.{false≢true, cases_eq, eq-eqb, ne_eqb}
 use Rattle.forms.specs.Meaning.{Meaning, Keeps}
 use Rattle.settlement.specs.declared.faults.BookFault.{BookFault}
-use Rattle.standing.specs.Requests.{Opening, Posting, Request, posting, withdrawal, entering, cancelling, closing, statement, about_contracts, without_contracts, told_without}
+use Rattle.standing.specs.Requests.{Opening, Posting, Request, posting, unread, withdrawal, entering, cancelling, closing, statement, about_contracts, without_contracts, told_without}
 use Rattle.standing.specs.Standing.{Standing, standing_with, fault_met, can_ask, changed, next, standing_after}
 use Rattle.standing.specs.Worked.{Reply, skipped, done, reply_to, reply, replies_from}
 use Rattle.standing.proofs.Checked.{checked}
@@ -81,6 +81,7 @@ module _ (form : Meaning) (o : Opening) (opened : Opened o) where
       met false fault is told = absurd (false≢true told)
       met true None none told = (checked o hour p none opened).measured
       met true (Some fault) is told = absurd (false≢true told)
+  accepted_postable s (unread fault) = λ told. tt
   accepted_postable s (withdrawal hour) = λ told. tt
   accepted_postable s (entering number c) = λ told. tt
   accepted_postable s (cancelling number) = λ told. tt
@@ -118,6 +119,7 @@ module _ (form : Meaning) (o : Opening) (hour : ℕ) where
       left : (q : Request) →
           cond (was_accepted (done form o s q)) (stands_left hour (as_request hour (s.posted hour)) q) (as_request hour (s.posted hour)) ≡ as_request hour ((changed q s).posted hour)
       left (posting h p) = left_here s h (Some p)
+      left (unread fault) = refl
       left (withdrawal h) = left_here s h None
       left (entering number c) = refl
       left (cancelling number) = refl

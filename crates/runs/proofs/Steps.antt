@@ -3,6 +3,7 @@ use Rattle.std.proofs.Common.{◌≡◌, ℕ, ◌+◌, ◌-◌, ◌<◌, ◌≤�
 use Rattle.std.specs.Option.{option_map}
 use Rattle.std.proofs.lemmas.List.{get_or_past}
 use Rattle.std.proofs.lemmas.Bool.{cases_lt, le-leb, leb-false, eqb-false, ltb-false, or_parts, not-false}
+use Rattle.packets.specs.declared.faults.ByteFault.{ByteFault}
 use Rattle.forms.specs.declared.Contract.{Contract}
 use Rattle.forms.specs.Meaning.{Meaning, Keeps}
 use Rattle.settlement.specs.declared.faults.BookFault.{BookFault}
@@ -17,9 +18,9 @@ use Rattle.settlement.specs.Sums.{first_failing}
 use Rattle.settlement.proofs.Checks.{all_each}
 use Rattle.settlement.proofs.Measured.{unmet}
 use Rattle.settlement.proofs.Settles.{fitting}
-use Rattle.book.specs.Calls.{outcome, post_fault, withdraw_fault, enter_fault, cancel_fault, close_fault, statement_in, statement_fault, stated as stated_on}
+use Rattle.book.specs.Calls.{outcome, post_fault, unread_fault, withdraw_fault, enter_fault, cancel_fault, close_fault, statement_in, statement_fault, stated as stated_on}
 use Rattle.book.specs.Memory.{Memory, is_posted}
-use Rattle.standing.specs.Requests.{Opening, count_in, hours_in, Posting, Request, posting, withdrawal, entering, cancelling, closing, statement}
+use Rattle.standing.specs.Requests.{Opening, count_in, hours_in, Posting, Request, posting, unread, withdrawal, entering, cancelling, closing, statement}
 use Rattle.standing.specs.Standing.{State, open', closed, Standing, stands, fault_met, can_ask, changed, next}
 use Rattle.standing.specs.Worked.{accepted, stated, skipped, done, reply_to, reply}
 use Rattle.standing.proofs.Again.{first_failing_same}
@@ -29,7 +30,7 @@ use Rattle.standing.proofs.Soundness.{none_there, first_met_none}
 use Rattle.runs.specs.declared.calls.Told.TheVariants.{Skipped}
 use Rattle.runs.specs.Reading.{reply_of}
 use Rattle.runs.specs.Runs.{Kept, kept_of, Turn, turn_of, done_as, stated_as, state_after, heard_in, heard}
-use Rattle.runs.proofs.Fits.{past_memory}
+use Rattle.runs.proofs.Fits.{past_memory, no_size_fault}
 use Rattle.runs.proofs.Holds.{figures_of_opening, Held, Holds, mark_for}
 use Rattle.runs.proofs.Keeps.{held_rewritten, held_placed, held_charged, weights_read}
 use Rattle.runs.proofs.Statements.{statements_step}
@@ -129,6 +130,10 @@ module _ (form : Meaning) (keeps : Keeps form) (o : Opening) (opened : Opened o)
       past_memory form keeps o opened s sound m held _
       ∙ (λ t. first_met (of_posting (line_fault (count_in o) (hours_in o) (held.agents t) hour p.price p.lines) ∷ met_if (uncarried (held.agents t) p.price p.lines) NoCarrier ∷ []))
 
+  -- memory is never met with the wrong size, so bytes that are no packet are told
+  unread_fault_lem : (fault : ByteFault) → unread_fault (figures_of_opening o) fault m ≡ fault_met form o s (unread fault)
+  unread_fault_lem fault = ap (λ size. first_met (size ∷ fault_met form o s (unread fault) ∷ [])) (no_size_fault form keeps o opened s sound m held)
+
   -- within the month the mark tells whether the hour is free
   withdraw_fault_lem : (hour : ℕ) → withdraw_fault form (figures_of_opening o) hour m ≡ fault_met form o s (withdrawal hour)
   withdraw_fault_lem hour =
@@ -210,6 +215,12 @@ module _ (form : Meaning) (keeps : Keeps form) (o : Opening) (opened : Opened o)
               (λ i agent t. entry_of (hour_of (pool_of form o.weekday (held.agents t) (held.contracts t)) hour p.price p.lines i));
         })
 
+    -- bytes that are no packet
+    unread_step : (fault : ByteFault) → Stepped form o s (unread fault) (heard_in form (figures_of_opening o) (unread fault) open' m)
+    unread_step fault =
+        call_step (unread fault) (asked_open (unread fault)) refl _ (unread_fault_lem fault) tt _ (λ answer. open') (λ why. sym is)
+        (λ none. record { state = sym is; memory = held })
+
     -- a withdrawal
     withdraw_step : (hour : ℕ) → Stepped form o s (withdrawal hour) (heard_in form (figures_of_opening o) (withdrawal hour) open' m)
     withdraw_step hour =
@@ -245,6 +256,7 @@ module _ (form : Meaning) (keeps : Keeps form) (o : Opening) (opened : Opened o)
     -- each request
     open_step : (r : Request) → Stepped form o s r (heard_in form (figures_of_opening o) r open' m)
     open_step (posting hour p) = post_step hour p
+    open_step (unread fault) = unread_step fault
     open_step (withdrawal hour) = withdraw_step hour
     open_step (entering number c) = enter_step number c
     open_step (cancelling number) = cancel_step number
@@ -256,6 +268,7 @@ module _ (form : Meaning) (keeps : Keeps form) (o : Opening) (opened : Opened o)
   -- only statements can be asked
   closed_step : s.state ≡ closed → (r : Request) → Stepped form o s r (heard_in form (figures_of_opening o) r closed m)
   closed_step is (posting hour p) = unasked (posting hour p) closed (sym is) (ap (λ state. can_ask state (posting hour p)) is)
+  closed_step is (unread fault) = unasked (unread fault) closed (sym is) (ap (λ state. can_ask state (unread fault)) is)
   closed_step is (withdrawal hour) = unasked (withdrawal hour) closed (sym is) (ap (λ state. can_ask state (withdrawal hour)) is)
   closed_step is (entering number c) = unasked (entering number c) closed (sym is) (ap (λ state. can_ask state (entering number c)) is)
   closed_step is (cancelling number) = unasked (cancelling number) closed (sym is) (ap (λ state. can_ask state (cancelling number)) is)

@@ -2,14 +2,16 @@
 use Rattle.std.specs.Prelude.{ℕ, List, Ok, Err, Result, vec_items}
 use Rattle.settlement.specs.declared.agents.Agent.{Agent}
 use Rattle.settlement.specs.declared.faults.BookFault.{BookFault}
+use Rattle.packets.specs.declared.faults.ByteFault.{ByteFault}
+use Rattle.settlement.specs.Packets.{PostedHour, posting_in}
 use Rattle.book.specs.declared.months.MonthFigures.{MonthFigures}
 use Rattle.book.specs.declared.statements.Statement.{Statement}
 use Rattle.book.specs.Months.{figures_of, closed_figures_of}
-use Rattle.standing.specs.Requests.{Opening, Request, posting, withdrawal, entering, cancelling, closing, statement}
+use Rattle.standing.specs.Requests.{Opening, Request, posting, unread, withdrawal, entering, cancelling, closing, statement}
 use Rattle.standing.specs.Standing.{State, open', closed}
 use Rattle.standing.specs.Worked.{Worked, Reply, accepted, stated, refused, skipped}
 use Rattle.runs.specs.declared.calls.Call.{Call}
-use Rattle.runs.specs.declared.calls.Call.TheVariants.{Post, Withdraw, Enter, Cancel, Close, Statement as StatementOf}
+use Rattle.runs.specs.declared.calls.Call.TheVariants.{Post, Packet, Withdraw, Enter, Cancel, Close, Statement as StatementOf}
 use Rattle.runs.specs.declared.calls.Told.{Told}
 use Rattle.runs.specs.declared.calls.Told.TheVariants.{Accepted, Stated, Skipped}
 use Rattle.runs.specs.declared.calls.Month.{Month}
@@ -19,9 +21,15 @@ use Rattle.runs.specs.declared.calls.Month.TheVariants.{Open, Closed}
 abbrev pub opening_of : (days weekday : ℕ) → List Agent → Opening
 opening_of days weekday agents = record { agents = agents; days = days; weekday = weekday }
 
+-- what bytes ask: a posting, or where they are no packet, only to be told so
+abbrev pub request_in : Result PostedHour ByteFault → Request
+request_in (Ok p) = posting p.hour (record { price = p.price; lines = p.lines })
+request_in (Err fault) = unread fault
+
 -- what a call asks
 abbrev pub request_of : Call → Request
 request_of (Post p) = posting p.hour (record { price = p.price; lines = vec_items p.lines })
+request_of (Packet bytes) = request_in (posting_in (vec_items bytes))
 request_of (Withdraw hour) = withdrawal hour
 request_of (Enter number c) = entering number c
 request_of (Cancel number) = cancelling number

@@ -7,11 +7,11 @@ use Rattle.settlement.specs.declared.faults.BookFault.{BookFault}
 use Rattle.settlement.specs.Holdings.{no_holding}
 use Rattle.book.specs.declared.months.MonthFigures.{MonthFigures}
 use Rattle.book.specs.declared.statements.Statement.{Statement}
-use Rattle.book.specs.Calls.{posted, withdrawn, entered, cancelled, closed as closed_by, statement_of, statement_in, stated}
+use Rattle.book.specs.Calls.{posted, unread as refused_unread, withdrawn, entered, cancelled, closed as closed_by, statement_of, statement_in, stated}
 use Rattle.book.specs.Memory.{Memory}
 use Rattle.book.specs.Months.{hours_of}
 use Rattle.standing.specs.Law.{is_done}
-use Rattle.standing.specs.Requests.{Request, posting, withdrawal, entering, cancelling, closing, statement, about_contracts}
+use Rattle.standing.specs.Requests.{Request, posting, unread, withdrawal, entering, cancelling, closing, statement, about_contracts}
 use Rattle.standing.specs.Standing.{State, open', closed}
 use Rattle.runs.specs.Reading.{Answer, reply_of}
 use Rattle.runs.specs.declared.calls.Told.TheVariants.{Accepted, Stated, Skipped}
@@ -52,12 +52,14 @@ state_after (Err fault) = open'
 -- one request on a book with these figures: of a closed month only statements can be asked
 abbrev pub heard_in : Meaning → MonthFigures → Request → State → Memory → Turn
 heard_in form f (posting hour p) open' m = let came = posted form f hour p.price p.lines m in turn_of (done_as came.answer) open' came.memory
+heard_in form f (unread fault) open' m = let came = refused_unread f fault m in turn_of (done_as came.answer) open' came.memory
 heard_in form f (withdrawal hour) open' m = let came = withdrawn form f hour m in turn_of (done_as came.answer) open' came.memory
 heard_in form f (entering number c) open' m = let came = entered form f number c m in turn_of (done_as came.answer) open' came.memory
 heard_in form f (cancelling number) open' m = let came = cancelled form f number m in turn_of (done_as came.answer) open' came.memory
 heard_in form f closing open' m = let came = closed_by form f m in turn_of (done_as came.answer) (state_after came.answer) came.memory
 heard_in form f (statement agent) open' m = turn_of (stated_as (stated form f agent m)) open' m
 heard_in form f (posting hour p) closed m = turn_of (Ok Skipped) closed m
+heard_in form f (unread fault) closed m = turn_of (Ok Skipped) closed m
 heard_in form f (withdrawal hour) closed m = turn_of (Ok Skipped) closed m
 heard_in form f (entering number c) closed m = turn_of (Ok Skipped) closed m
 heard_in form f (cancelling number) closed m = turn_of (Ok Skipped) closed m

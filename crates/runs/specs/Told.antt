@@ -1,7 +1,7 @@
 -- What the answers tell of what stands at an hour. Assumes nothing.
 use Rattle.std.specs.Prelude.{◌≡◌, ℕ, Bool, true, false, cond, List, [], ◌∷◌, Some, None, Option, ◌==◌}
 use Rattle.settlement.specs.PostingFaults.{Measured}
-use Rattle.standing.specs.Requests.{Request, posting, withdrawal, entering, cancelling, closing, statement}
+use Rattle.standing.specs.Requests.{Request, posting, unread, withdrawal, entering, cancelling, closing, statement}
 use Rattle.standing.specs.Worked.{Reply, accepted, stated, refused, skipped}
 
 -- whether something was done in the book
@@ -14,6 +14,7 @@ was_accepted skipped = false
 -- the posting that an accepted request leaves at an hour, where this stood there before
 abbrev pub stands_left : (hour : ℕ) → Option Request → Request → Option Request
 stands_left hour before (posting h p) = cond (h == hour) (Some (posting h p)) before
+stands_left hour before (unread fault) = before
 stands_left hour before (withdrawal h) = cond (h == hour) None before
 stands_left hour before (entering number c) = before
 stands_left hour before (cancelling number) = before
@@ -29,6 +30,7 @@ stands_told hour before (r ∷ rs) (q ∷ told) = stands_told hour (cond (was_ac
 -- a request whose posting, if it makes one, is measured
 abbrev pub Postable : Request → Type 0
 Postable (posting hour p) = Measured p.price p.lines
+Postable (unread fault) = Unit {0}
 Postable (withdrawal hour) = Unit {0}
 Postable (entering number c) = Unit {0}
 Postable (cancelling number) = Unit {0}

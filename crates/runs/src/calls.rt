@@ -17,6 +17,8 @@ pub struct Posting {
 pub enum Call {
     /// Post an hour, or correct it where it is posted.
     Post(Posting),
+    /// Post an hour, or correct it, from the bytes of an hour packet.
+    Packet(Vec<u8>),
     /// Withdraw the posting of an hour.
     Withdraw(u32),
     /// Enter a contract under a number.

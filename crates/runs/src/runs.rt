@@ -10,7 +10,7 @@ ghost use Rattle.runs.specs.Runs.{kept_of, turn_of, done_as, heard, turn, answer
 use crate::calls::{Answer, Call, Month, Told};
 use book::{
     Agent, BookFault, ClosedMonth, Ledger, OpenMonth, Pool, View, cancel, close, enter,
-    final_statement, post, provisional, withdraw,
+    final_statement, post, post_packet, provisional, withdraw,
 };
 use forms::{Contract, ContractForm};
 
@@ -61,6 +61,13 @@ fn answer_open<F: ContractForm>(
             &Pool { agents, contracts },
             ledger,
         )),
+        Call::Packet(bytes) => told(post_packet(
+            &month,
+            form,
+            bytes,
+            &Pool { agents, contracts },
+            ledger,
+        )),
         Call::Withdraw(hour) => told(withdraw(
             &month,
             form,
@@ -95,8 +102,12 @@ fn answer_closed<F: ContractForm>(
 {
     match call {
         Call::Statement(agent) => final_statement(month, form, *agent, view).map(Told::Stated),
-        Call::Post(_) | Call::Withdraw(_) | Call::Enter { .. } | Call::Cancel(_) | Call::Close =>
-            Ok(Told::Skipped),
+        Call::Post(_)
+        | Call::Packet(_)
+        | Call::Withdraw(_)
+        | Call::Enter { .. }
+        | Call::Cancel(_)
+        | Call::Close => Ok(Told::Skipped),
     }
 }
 

@@ -13,7 +13,7 @@ use Rattle.settlement.specs.Power.{power_uncarried}
 use Rattle.settlement.specs.Sums.{first_failing}
 use Rattle.settlement.proofs.Sums.{sum_to_same}
 use Rattle.standing.specs.Law.{is_done}
-use Rattle.standing.specs.Requests.{Opening, hours_in, Posting, Request, posting, withdrawal, entering, cancelling, closing, statement}
+use Rattle.standing.specs.Requests.{Opening, hours_in, Posting, Request, posting, unread, withdrawal, entering, cancelling, closing, statement}
 use Rattle.standing.specs.Standing.{State, open', closed, Standing, nothing_stands, standing_with, stands, withdrawn_in, withdrawn_of, closing_fault}
 use Rattle.standing.specs.Standing.{fault_met, can_ask, changed, next, standing_after, after, Level, entries_of, posting_at, postings_of, closing_of, only_standing}
 use Rattle.standing.specs.Worked.{skipped, reply_to, done, reply, replies_from}
@@ -53,6 +53,7 @@ module _ (form : Meaning) (o : Opening) where
   -- what is told of a request that is done says so
   done_is : (s : Standing) (r : Request) → is_done (done form o s r) ≡ true
   done_is s (posting hour p) = refl
+  done_is s (unread fault) = refl
   done_is s (withdrawal hour) = refl
   done_is s (entering number c) = refl
   done_is s (cancelling number) = refl

@@ -3,7 +3,7 @@ use Rattle.std.proofs.Common.{◌≡◌, ℕ, Bool, true, false, cond, List, [],
 use Rattle.std.proofs.lemmas.Bool.{true≢false, false≢true}
 use Rattle.forms.specs.Meaning.{Meaning}
 use Rattle.settlement.specs.declared.faults.BookFault.{BookFault}
-use Rattle.standing.specs.Requests.{Opening, Request, posting, withdrawal, entering, cancelling, closing, statement, about_contracts, without_contracts, told_without}
+use Rattle.standing.specs.Requests.{Opening, Request, posting, unread, withdrawal, entering, cancelling, closing, statement, about_contracts, without_contracts, told_without}
 use Rattle.standing.specs.Standing.{Standing, nothing_stands, fault_met, can_ask, is_accepted, next, standing_after, after}
 use Rattle.standing.specs.Worked.{Reply, skipped, reply_to, reply, replies_from, Manner, manner_of}
 
@@ -28,6 +28,7 @@ module _ (form : Meaning) (o : Opening) where
   manner_of_lem s t r false fault = refl
   manner_of_lem s t r true (Some fault) = refl
   manner_of_lem s t (posting hour p) true None = refl
+  manner_of_lem s t (unread fault) true None = refl
   manner_of_lem s t (withdrawal hour) true None = refl
   manner_of_lem s t (entering number c) true None = refl
   manner_of_lem s t (cancelling number) true None = refl
@@ -37,6 +38,7 @@ module _ (form : Meaning) (o : Opening) where
   -- a request that is not about contracts meets the same fault without them
   fault_apart : (s : Standing) (r : Request) → about_contracts r ≡ false → fault_met form o s r ≡ fault_met form o (apart s) r
   fault_apart s (posting hour p) other = refl
+  fault_apart s (unread fault) other = refl
   fault_apart s (withdrawal hour) other = refl
   fault_apart s (entering number c) other = absurd (true≢false other)
   fault_apart s (cancelling number) other = absurd (true≢false other)
@@ -52,6 +54,7 @@ module _ (form : Meaning) (o : Opening) where
   -- and changes the same
   next_apart : (s : Standing) (r : Request) → about_contracts r ≡ false → next form o (apart s) r ≡ apart (next form o s r)
   next_apart s (posting hour p) other = either_same apart (is_accepted form o s (posting hour p)) _ _
+  next_apart s (unread fault) other = either_same apart (is_accepted form o s (unread fault)) _ _
   next_apart s (withdrawal hour) other = either_same apart (is_accepted form o s (withdrawal hour)) _ _
   next_apart s (entering number c) other = absurd (true≢false other)
   next_apart s (cancelling number) other = absurd (true≢false other)
@@ -61,6 +64,7 @@ module _ (form : Meaning) (o : Opening) where
   -- a request about contracts changes nothing else
   next_about : (s : Standing) (r : Request) → about_contracts r ≡ true → apart s ≡ apart (next form o s r)
   next_about s (posting hour p) about = absurd (false≢true about)
+  next_about s (unread fault) about = absurd (false≢true about)
   next_about s (withdrawal hour) about = absurd (false≢true about)
   next_about s (entering number c) about = sym (either_way apart (is_accepted form o s (entering number c)) _ s refl)
   next_about s (cancelling number) about = sym (either_way apart (is_accepted form o s (cancelling number)) _ s refl)

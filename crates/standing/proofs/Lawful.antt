@@ -56,6 +56,7 @@ module _ (form : Meaning) (keeps : Keeps form) (o : Opening) (opened : Opened o)
     run_again = run_again;
     alike = ap (λ told. map manner_of (told_without requests told)) run.answers ∙ alike form o requests ∙ ap (map manner_of) (sym run_without.answers);
     sound = ap (list_all unspoilt) run.answers ∙ unspoilt_told form o nothing_stands requests;
+    sound_without = ap (list_all unspoilt) run_without.answers ∙ unspoilt_told form o nothing_stands (without_contracts requests);
     left = left;
     balanced = run.together ∙ balanced form keeps o opened whole whole_sound ∙ ap neg_ℤ (sym left);
     balanced_without = run_without.together ∙ balanced form keeps o opened without (sound_after form o (without_contracts requests)) ∙ ap neg_ℤ (residue_without ∙ sym left);

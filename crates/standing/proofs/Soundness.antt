@@ -8,7 +8,7 @@ use Rattle.forms.specs.Meaning.{Meaning}
 use Rattle.settlement.specs.ContractFaults.{contract_fits, place_fits, taken_fault, terms_fault}
 use Rattle.settlement.specs.Faults.{first_met}
 use Rattle.settlement.proofs.Measured.{unmet}
-use Rattle.standing.specs.Requests.{Opening, hours_in, Posting, Request, posting, withdrawal, entering, cancelling, closing, statement}
+use Rattle.standing.specs.Requests.{Opening, hours_in, Posting, Request, posting, unread, withdrawal, entering, cancelling, closing, statement}
 use Rattle.standing.specs.Standing.{closed, Standing, nothing_stands, standing_with, placed_with, fault_met, can_ask, changed, is_accepted, next, standing_after, after}
 use Rattle.standing.proofs.Sound.{Faultless, Sound}
 
@@ -78,6 +78,7 @@ module _ (form : Meaning) (o : Opening) where
     -- what an accepted request leaves
     sound_changed : (r : Request) → can_ask s.state r ≡ true → fault_met form o s r ≡ None → Sound form o (changed r s)
     sound_changed (posting hour p) asked none = sound_with hour (Some p) (λ q is. subst (Faultless o hour) (cc) none) (still_open (posting hour p) refl asked)
+    sound_changed (unread fault) asked none = sound
     sound_changed (withdrawal hour) asked none = sound_with hour None (λ p is. cc) (still_open (withdrawal hour) refl asked)
     sound_changed (entering number c) asked none =
         let rest = (first_met_none (taken_fault s.places number) _ none).1 in

@@ -3,19 +3,21 @@ use Rattle.std.proofs.Common.{◌≡◌, ℕ, Bool, true, false, cond, not, ◌|
 use Rattle.std.specs.List.{list_all}
 use Rattle.std.specs.Option.{option_map}
 use Rattle.std.proofs.lemmas.Bool.{and_from}
+use Rattle.packets.specs.declared.faults.ByteFault.{ByteFault}
+use Rattle.packets.specs.declared.faults.ByteFault.TheVariants.{WrongSize, Malformed}
 use Rattle.forms.specs.declared.Contract.{Contract}
 use Rattle.forms.specs.Meaning.{Meaning}
 use Rattle.settlement.specs.declared.faults.BookFault.{BookFault}
-use Rattle.settlement.specs.declared.faults.BookFault.TheVariants.{OutsideBook, NoCarrier, FreeHour, MissingHour, NoPowerCarrier, ContractNumber, ContractTerms, CoveredHour}
+use Rattle.settlement.specs.declared.faults.BookFault.TheVariants.{Posting, OutsideBook, NoCarrier, FreeHour, MissingHour, NoPowerCarrier, ContractNumber, ContractTerms, CoveredHour}
 use Rattle.settlement.specs.declared.faults.LineFault.{LineFault}
-use Rattle.settlement.specs.declared.faults.LineFault.TheVariants.{HourOutside, OutsideLimit, BreaksRule, TooMuchTogether}
+use Rattle.settlement.specs.declared.faults.LineFault.TheVariants.{Packet, HourOutside, OutsideLimit, BreaksRule, TooMuchTogether}
 use Rattle.settlement.specs.ContractFaults.{taken_fault, vacant_fault, terms_fault, covered_fault, covered_in, place_at}
 use Rattle.settlement.specs.Faults.{number_of, met_if, first_met, of_posting}
 use Rattle.settlement.specs.PostingFaults.{hour_fault, line_fault, uncarried}
 use Rattle.settlement.specs.Power.{power_uncarried}
 use Rattle.settlement.specs.Sums.{first_failing}
 use Rattle.standing.specs.Law.{unspoilt}
-use Rattle.standing.specs.Requests.{Opening, count_in, hours_in, Request, posting, withdrawal, entering, cancelling, closing, statement}
+use Rattle.standing.specs.Requests.{Opening, count_in, hours_in, Request, posting, unread, withdrawal, entering, cancelling, closing, statement}
 use Rattle.standing.specs.Standing.{Standing, stands, withdrawn_of, fault_met, can_ask, next}
 use Rattle.standing.specs.Worked.{skipped, reply_to, replies_from}
 
@@ -37,9 +39,15 @@ told_of : {X : Type 0} (f : X → BookFault) (place : Option X) → ((x : X) →
 told_of f None each = record { is = refl }
 told_of f (Some x) each = each x
 
+-- a fault of bytes
+of_bytes : (fault : ByteFault) → Fine (Some (Posting (Packet fault)))
+of_bytes WrongSize = record { is = refl }
+of_bytes (Malformed place) = record { is = refl }
+
 -- a fault of a posting's own figures
 own : (fault : Option LineFault) → Fine (of_posting fault)
 own None = record { is = refl }
+own (Some (Packet fault)) = of_bytes fault
 own (Some (HourOutside hour)) = record { is = refl }
 own (Some (OutsideLimit place)) = record { is = refl }
 own (Some (BreaksRule place)) = record { is = refl }
@@ -69,6 +77,7 @@ module _ (form : Meaning) (o : Opening) where
   fault_fine s (posting hour p) =
       first_of (of_posting (line_fault (count_in o) (hours_in o) o.agents hour p.price p.lines) ∷ met_if (uncarried o.agents p.price p.lines) NoCarrier ∷ [])
       (own _, (met _ NoCarrier (record { is = refl }), tt))
+  fault_fine s (unread fault) = of_bytes fault
   fault_fine s (withdrawal hour) =
       first_of (of_posting (hour_fault (hours_in o) hour) ∷ met_if (not (stands s hour)) (FreeHour hour) ∷ []) (own _, (met _ (FreeHour hour) (record { is = refl }), tt))
   fault_fine s (entering number c) =
@@ -87,6 +96,7 @@ module _ (form : Meaning) (o : Opening) where
   told_fine s r false fault is = refl
   told_fine s r true (Some fault) is = is
   told_fine s (posting hour p) true None is = refl
+  told_fine s (unread fault) true None is = refl
   told_fine s (withdrawal hour) true None is = refl
   told_fine s (entering number c) true None is = refl
   told_fine s (cancelling number) true None is = refl

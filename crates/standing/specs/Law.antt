@@ -44,8 +44,9 @@ pub record Settled (form : Meaning) (o : Opening) (requests : List Request) (fir
   pub run_again : Ran form o (only_standing o (after form o requests)) third
   -- requests that the first two both heard were answered alike, refusals with the same number and place
   pub alike : map manner_of (told_without requests first.told) ≡ map manner_of second.told
-  -- what is stored was never found outside its limits
+  -- what is stored was never found outside its limits, with contracts and without
   pub sound : list_all unspoilt first.told ≡ true
+  pub sound_without : list_all unspoilt second.told ≡ true
   -- the residue is worked from the postings of the standing hours alone, and all balances together are minus the residue, with contracts and
   -- without
   pub left : residue ≡ residue_after o (after form o requests)

@@ -1,5 +1,6 @@
 -- A book's opening, and what its host asks of it, as the subject has them. Assumes nothing.
 use Rattle.std.specs.Prelude.{ℕ, ◌*◌, Bool, true, false, cond, List, [], ◌∷◌, length}
+use Rattle.packets.specs.declared.faults.ByteFault.{ByteFault}
 use Rattle.forms.specs.declared.Contract.{Contract}
 use Rattle.settlement.specs.declared.agents.Agent.{Agent}
 use Rattle.settlement.specs.declared.lines.Line.{Line}
@@ -23,10 +24,12 @@ pub record Posting : Type 0 where
   pub price : ℕ
   pub lines : List Line
 
--- what a host asks of a book: post an hour, or correct it; withdraw it; enter a contract under a number, or cancel it; close the month; give
--- an agent's statement, provisional while the month is open and final once it is closed
+-- what a host asks of a book: post an hour, or correct it, from lines or from a packet that says them; post bytes that are no packet, for this
+-- fault; withdraw an hour; enter a contract under a number, or cancel it; close the month; give an agent's statement, provisional while the
+-- month is open and final once it is closed
 pub data Request : Type 0 where
   posting : (hour : ℕ) → Posting → Request
+  unread : ByteFault → Request
   withdrawal : (hour : ℕ) → Request
   entering : (number : ℕ) → Contract → Request
   cancelling : (number : ℕ) → Request
@@ -36,6 +39,7 @@ pub data Request : Type 0 where
 -- the request to close the month
 abbrev pub is_closing : Request → Bool
 is_closing (posting hour p) = false
+is_closing (unread fault) = false
 is_closing (withdrawal hour) = false
 is_closing (entering number c) = false
 is_closing (cancelling number) = false
@@ -45,6 +49,7 @@ is_closing (statement agent) = false
 -- the requests that are about contracts
 abbrev pub about_contracts : Request → Bool
 about_contracts (posting hour p) = false
+about_contracts (unread fault) = false
 about_contracts (withdrawal hour) = false
 about_contracts (entering number c) = true
 about_contracts (cancelling number) = true

@@ -6,14 +6,15 @@ use Rattle.forms.specs.declared.Delivery.{Delivery}
 use Rattle.forms.specs.declared.Delivery.TheVariants.{MarketBar, SellerNode, BuyerNode}
 use Rattle.forms.specs.Meaning.{Meaning}
 use Rattle.settlement.specs.declared.faults.BookFault.{BookFault}
-use Rattle.settlement.specs.declared.faults.BookFault.TheVariants.{OutsideBook, NoCarrier, FreeHour, MissingHour, NoPowerCarrier}
+use Rattle.settlement.specs.declared.faults.BookFault.TheVariants.{Posting as PostingFault, OutsideBook, NoCarrier, FreeHour, MissingHour, NoPowerCarrier}
+use Rattle.settlement.specs.declared.faults.LineFault.TheVariants.{Packet}
 use Rattle.settlement.specs.ContractFaults.{taken_fault, vacant_fault, terms_fault, covered_fault, covered_in, place_at}
 use Rattle.settlement.specs.Faults.{met_if, first_met, of_posting}
 use Rattle.settlement.specs.Hour.{line_at}
 use Rattle.settlement.specs.PostingFaults.{hour_fault, line_fault, uncarried}
 use Rattle.settlement.specs.Power.{power_uncarried}
 use Rattle.settlement.specs.Sums.{sum_to, first_failing}
-use Rattle.standing.specs.Requests.{Opening, count_in, hours_in, Posting, Request, posting, withdrawal, entering, cancelling, closing, statement}
+use Rattle.standing.specs.Requests.{Opening, count_in, hours_in, Posting, Request, posting, unread, withdrawal, entering, cancelling, closing, statement}
 
 -- a month is open, or closed
 pub data State : Type 0 where
@@ -72,6 +73,7 @@ closing_fault o s =
 -- the fault that a request meets, the smallest number first
 abbrev pub fault_met : Meaning → Opening → Standing → Request → Option BookFault
 fault_met form o s (posting hour p) = posting_fault o hour p
+fault_met form o s (unread fault) = Some (PostingFault (Packet fault))
 fault_met form o s (withdrawal hour) =
     first_met (of_posting (hour_fault (hours_in o) hour) ∷ met_if (not (stands s hour)) (FreeHour hour) ∷ [])
 fault_met form o s (entering number c) =
@@ -85,6 +87,7 @@ fault_met form o s (statement agent) = met_if (agent == 0 || nat_lt (count_in o)
 abbrev pub can_ask : State → Request → Bool
 can_ask open' r = true
 can_ask closed (posting hour p) = false
+can_ask closed (unread fault) = false
 can_ask closed (withdrawal hour) = false
 can_ask closed (entering number c) = false
 can_ask closed (cancelling number) = false
@@ -97,6 +100,7 @@ can_ask closed (statement agent) = true
 -- contract stands from its entry to its cancelling
 abbrev pub changed : Request → Standing → Standing
 changed (posting hour p) s = standing_with hour (Some p) s
+changed (unread fault) s = s
 changed (withdrawal hour) s = standing_with hour None s
 changed (entering number c) s = placed_with number (Some c) s
 changed (cancelling number) s = placed_with number None s

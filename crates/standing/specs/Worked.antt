@@ -10,7 +10,7 @@ use Rattle.settlement.specs.Hour.{line_at, Figures, no_figures, residue_of}
 use Rattle.settlement.specs.Pool.{Pool, pool_of, hour_of}
 use Rattle.settlement.specs.Power.{power_line}
 use Rattle.settlement.specs.Sums.{sum_to, sum_to_ℤ}
-use Rattle.standing.specs.Requests.{Opening, count_in, hours_in, Posting, Request, posting, withdrawal, entering, cancelling, closing, statement}
+use Rattle.standing.specs.Requests.{Opening, count_in, hours_in, Posting, Request, posting, unread, withdrawal, entering, cancelling, closing, statement}
 use Rattle.standing.specs.Standing.{State, open', closed, Standing, withdrawn_in, withdrawn_of, fault_met, can_ask, next}
 
 -- what hours are settled with: the form, and the contracts that stand
@@ -106,6 +106,7 @@ pub data Reply : Type 0 where
 -- what is told of a request that is done: a statement is the one worked from what stands
 abbrev pub done : Meaning → Opening → Standing → Request → Reply
 done form o s (posting hour p) = accepted
+done form o s (unread fault) = accepted
 done form o s (withdrawal hour) = accepted
 done form o s (entering number c) = accepted
 done form o s (cancelling number) = accepted
