@@ -6,7 +6,7 @@ use thiserror::Error;
 #[derive(Clone, Copy, Debug, Error, PartialEq)]
 pub(crate) enum Expected {
     /// One of the words that begin a line.
-    #[error("expected a line that begins with open, agent, contract, post, line, withdraw, cancel, close, statement or statements")]
+    #[error("expected a line that begins with open, agent, contract, post, line, packet, withdraw, cancel, close, statement or statements")]
     Call,
     /// A label and a number.
     #[error("expected the word \"{0}\" and a number from 0 to 4294967295")]
@@ -23,6 +23,9 @@ pub(crate) enum Expected {
     /// The number of a contract.
     #[error("expected the number of a contract")]
     Contract,
+    /// The bytes of a packet.
+    #[error("expected hexadecimal digits, two for each byte")]
+    Digits,
     /// No word more.
     #[error("expected the end of the line")]
     End,

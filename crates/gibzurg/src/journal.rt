@@ -7,9 +7,9 @@ use forms::Contract;
 
 /// What one journal line says.
 #[derive(Clone, Copy, Debug, PartialEq)]
-pub(crate) enum Entry {
+pub(crate) enum Entry<'a> {
     /// A call to make.
-    Call(Request),
+    Call(Request<'a>),
     /// An agent of the book that is being opened, with its number.
     Agent(u32, Agent),
     /// A line of the posting that is being read.
@@ -18,10 +18,12 @@ pub(crate) enum Entry {
 
 /// A call that a journal asks for. The agents of an opening and the lines of a posting follow it.
 #[derive(Clone, Copy, Debug, PartialEq)]
-pub(crate) enum Request {
+pub(crate) enum Request<'a> {
     Open(MonthFigures),
     Enter { number: u32, contract: Contract },
     Post { hour: u32, price: u32 },
+    /// A packet to post, by its hexadecimal digits.
+    Packet(&'a str),
     Withdraw { hour: u32 },
     Cancel { number: u32 },
     Close,
@@ -37,7 +39,7 @@ pub(crate) fn goes_on(line: &str) -> bool {
 }
 
 /// Reads one line, without its end; a blank line or a comment says nothing.
-pub(crate) fn read(line: &str) -> Result<Option<Entry>, Expected> {
+pub(crate) fn read(line: &str) -> Result<Option<Entry<'_>>, Expected> {
     let mut fields = Fields::new(line);
     match fields.word() {
         Some(first) if !first.starts_with('#') => {
@@ -50,7 +52,7 @@ pub(crate) fn read(line: &str) -> Result<Option<Entry>, Expected> {
 }
 
 /// Reads what stands after a line's first word.
-fn entry_of(first: &str, fields: &mut Fields) -> Result<Entry, Expected> {
+fn entry_of<'a>(first: &str, fields: &mut Fields<'a>) -> Result<Entry<'a>, Expected> {
     match first {
         "agent" => Ok(Entry::Agent(fields.agent()?, agent(fields)?)),
         "line" => Ok(Entry::Line(posting_line(fields)?)),
@@ -98,7 +100,7 @@ fn contract(fields: &mut Fields) -> Result<Contract, Expected> {
 }
 
 /// The call that a line's first word names.
-fn call_named(first: &str, fields: &mut Fields) -> Result<Request, Expected> {
+fn call_named<'a>(first: &str, fields: &mut Fields<'a>) -> Result<Request<'a>, Expected> {
     Ok(match first {
         "open" => Request::Open(MonthFigures {
             agents: fields.figure("agents")?,
@@ -113,6 +115,7 @@ fn call_named(first: &str, fields: &mut Fields) -> Result<Request, Expected> {
             hour: fields.figure("hour")?,
             price: fields.figure("price")?,
         },
+        "packet" => Request::Packet(fields.word().ok_or(Expected::Digits)?),
         "withdraw" => Request::Withdraw {
             hour: fields.figure("hour")?,
         },

@@ -75,7 +75,7 @@ impl<D: Desk> Session<'_, D> {
     }
 
     /// Begins or makes a call.
-    fn begin(&mut self, line: usize, request: Request) -> Result<(), Trouble> {
+    fn begin(&mut self, line: usize, request: Request<'_>) -> Result<(), Trouble> {
         let call = match request {
             Request::Open(figures) => {
                 let opening = Opening {
@@ -95,12 +95,22 @@ impl<D: Desk> Session<'_, D> {
             }
             Request::Statements => return self.desk.statements(line),
             Request::Enter { number, contract } => Call::Enter { number, contract },
+            Request::Packet(digits) => Call::Packet(self.packet(line, digits)?),
             Request::Withdraw { hour } => Call::Withdraw(hour),
             Request::Cancel { number } => Call::Cancel(number),
             Request::Close => Call::Close,
             Request::Statement { agent } => Call::Statement(agent),
         };
         self.desk.call(line, call)
+    }
+
+    /// The bytes of a packet, two digits for each.
+    fn packet(&self, line: usize, digits: &str) -> Result<Vec<u8>, Trouble> {
+        let mut bytes = vec![in self.heap; 0; digits.len() / 2]?;
+        match hex::decode_to_slice(digits, &mut bytes) {
+            Ok(()) => Ok(bytes),
+            Err(_) => Err(Trouble::Malformed(line, Expected::Digits)),
+        }
     }
 
     /// That no opening waits for agents.

@@ -13,6 +13,7 @@ pub(crate) enum Heading {
     Open,
     Contract(u32),
     Post(u32),
+    Packet,
     Withdraw(u32),
     Cancel(u32),
     Close,
@@ -24,6 +25,7 @@ impl From<&Call> for Heading {
     fn from(call: &Call) -> Heading {
         match call {
             Call::Post(posting) => Heading::Post(posting.hour),
+            Call::Packet(_) => Heading::Packet,
             Call::Withdraw(hour) => Heading::Withdraw(*hour),
             Call::Enter { number, .. } => Heading::Contract(*number),
             Call::Cancel(number) => Heading::Cancel(*number),
@@ -39,6 +41,7 @@ impl fmt::Display for Heading {
             Heading::Open => write!(f, "open"),
             Heading::Contract(number) => write!(f, "contract {number}"),
             Heading::Post(hour) => write!(f, "post hour {hour}"),
+            Heading::Packet => write!(f, "packet"),
             Heading::Withdraw(hour) => write!(f, "withdraw hour {hour}"),
             Heading::Cancel(number) => write!(f, "cancel {number}"),
             Heading::Close => write!(f, "close"),
