@@ -11,9 +11,10 @@ use crate::trouble::Trouble;
 use crate::words::{Heading, Reply, Sheet, Stage, Totals, Undone};
 use crate::{auditing, journal, settling};
 use audit::{Comparison, Report, Told, is_alike};
-use book::{Agent, BookFault, Line, MonthFigures, Statement};
+use book::{Agent, BookFault, Line, LineFault, MonthFigures, Statement};
 use forms::{Contract, Delivery, Role};
 use meter::{Hour, MeterFault};
+use packets::ByteFault;
 use std::test::Fail;
 use tally::{Energy, Money, Peak};
 
@@ -116,6 +117,10 @@ fn reads_lines(rt: HostRuntime) {
             })),
         ),
         (
+            " packet  08e0D403 ",
+            Some(Entry::Call(Request::Packet("08e0D403"))),
+        ),
+        (
             "withdraw hour 8",
             Some(Entry::Call(Request::Withdraw { hour: 8 })),
         ),
@@ -203,6 +208,8 @@ fn refuses_lines(rt: HostRuntime) {
             "line class 1 cause 0 injected 1 withdrawn 1 gross 1 factor 1",
             Expected::Figure("cost"),
         ),
+        ("packet", Expected::Digits),
+        ("packet 08 E0", Expected::End),
         ("withdraw 8", Expected::Figure("hour")),
         ("cancel", Expected::Contract),
         ("cancel contract 1", Expected::Contract),
@@ -277,60 +284,55 @@ fn says_dollars(rt: HostRuntime) -> Result<(), Fail> {
 
 #[test]
 fn says_replies(rt: HostRuntime) -> Result<(), Fail> {
-    let reply = Reply {
-        line: 5,
-        heading: Heading::Post(8),
-        outcome: Ok(()),
-    };
-    assert_eq!(rt;
-        reply.to_string(rt.alloc())?.as_str(),
-        "Line 5, post hour 8: accepted."
-    );
-    let reply = Reply {
-        line: 1,
-        heading: Heading::Open,
-        outcome: Err(Undone::NoBook),
-    };
-    assert_eq!(rt;
-        reply.to_string(rt.alloc())?.as_str(),
-        "Line 1, open: skipped, no book is open."
-    );
-    let reply = Reply {
-        line: 9,
-        heading: Heading::Withdraw(8),
-        outcome: Err(Undone::Refused(BookFault::FreeHour(8))),
-    };
-    assert_eq!(rt;
-        reply.to_string(rt.alloc())?.as_str(),
-        "Line 9, withdraw hour 8: refused, fault 9 at 8, the hour is free."
-    );
-    let reply = Reply {
-        line: 10,
-        heading: Heading::Contract(65),
-        outcome: Err(Undone::Refused(BookFault::ContractNumber)),
-    };
-    assert_eq!(rt;
-        reply.to_string(rt.alloc())?.as_str(),
-        "Line 10, contract 65: refused, fault 12 at 0, the contract number is outside 1 to 64, taken or not standing."
-    );
-    let reply = Reply {
-        line: 11,
-        heading: Heading::Cancel(1),
-        outcome: Err(Undone::Closed),
-    };
-    assert_eq!(rt;
-        reply.to_string(rt.alloc())?.as_str(),
-        "Line 11, cancel 1: skipped, the month is closed."
-    );
-    let reply = Reply {
-        line: 12,
-        heading: Heading::Close,
-        outcome: Err(Undone::Refused(BookFault::MissingHour(7))),
-    };
-    assert_eq!(rt;
-        reply.to_string(rt.alloc())?.as_str(),
-        "Line 12, close: refused, fault 10 at 7, an hour of the month is missing."
-    );
+    let byte = BookFault::Posting(LineFault::Packet(ByteFault::Malformed(55)));
+    // the journal's line; the call; how it went; what is said
+    let replies = [
+        (5, Heading::Post(8), Ok(()), "Line 5, post hour 8: accepted."),
+        (
+            1,
+            Heading::Open,
+            Err(Undone::NoBook),
+            "Line 1, open: skipped, no book is open.",
+        ),
+        (
+            9,
+            Heading::Withdraw(8),
+            Err(Undone::Refused(BookFault::FreeHour(8))),
+            "Line 9, withdraw hour 8: refused, fault 9 at 8, the hour is free.",
+        ),
+        (
+            10,
+            Heading::Contract(65),
+            Err(Undone::Refused(BookFault::ContractNumber)),
+            "Line 10, contract 65: refused, fault 12 at 0, the contract number is outside 1 to 64, taken or not standing.",
+        ),
+        (
+            11,
+            Heading::Cancel(1),
+            Err(Undone::Closed),
+            "Line 11, cancel 1: skipped, the month is closed.",
+        ),
+        (
+            12,
+            Heading::Close,
+            Err(Undone::Refused(BookFault::MissingHour(7))),
+            "Line 12, close: refused, fault 10 at 7, an hour of the month is missing.",
+        ),
+        (
+            13,
+            Heading::Packet,
+            Err(Undone::Refused(byte)),
+            "Line 13, packet: refused, fault 17 at 55, no number that the format allows starts at byte 55, or bytes are left over from there on.",
+        ),
+    ];
+    for (line, heading, outcome, wanted) in replies {
+        let reply = Reply {
+            line,
+            heading,
+            outcome,
+        };
+        assert_eq!(rt; reply.to_string(rt.alloc())?.as_str(), wanted);
+    }
     Ok(())
 }
 
@@ -582,6 +584,9 @@ fn ends_runs(rt: HostRuntime) -> Result<(), Fail> {
             2,
             Expected::NoPostingLine,
         ),
+        ("packet 08E", 1, Expected::Digits),
+        ("\npacket 08EG", 2, Expected::Digits),
+        ("packet +8", 1, Expected::Digits),
     ];
     for (text, line, wanted) in journals {
         for outcome in [settling::settle(&rt, text), auditing::audit(&rt, text)] {
