@@ -10,7 +10,8 @@ import cases
 import contract_cases
 import drawn
 from cases import HUGE, OPENED, line, opening, post, quiet
-from contract_cases import ACCEPTED, CLOSE, CLOSED, NO_BOOK, PAIR, block, cancel, contract, every_hour, opened, refused, shown, sold, told
+from contract_cases import ACCEPTED, CLOSE, CLOSED, NO_BOOK, PAIR
+from contract_cases import block, cancel, contract, every_hour, opened, refused, shown, sold, told
 from packets import hour_packet, spelled
 
 DRAWN = 8
@@ -38,9 +39,9 @@ def titled(part, name):
 # ---- How packets are written
 
 
-def sent(packet):
+def sent(data):
     """The journal's line that posts these bytes."""
-    return f"packet {packet.hex()}\n"
+    return f"packet {data.hex()}\n"
 
 
 def bytes_of(*lines, hour=0, price=50_000):
@@ -70,20 +71,20 @@ def some_by_packets(rng, text, damaged=0.0):
     def carried(posting):
         if rng.random() < 0.5:
             return posting[0]
-        packet = bytes_of_posting(posting)
-        return sent(damage(rng, packet) if rng.random() < damaged else packet)
+        whole = bytes_of_posting(posting)
+        return sent(damage(rng, whole) if rng.random() < damaged else whole)
 
     return POSTING.sub(carried, text)
 
 
-def damage(rng, packet):
-    """The packet with one byte changed, left out or put in."""
-    place = rng.randrange(len(packet))
+def damage(rng, whole):
+    """A packet with one byte left out, changed or put in."""
+    place = rng.randrange(len(whole))
     byte = bytes([rng.choice([0, 1, 127, 128, 255, rng.randrange(256)])])
-    return packet[:place] + rng.choice([b"", byte, byte + packet[place : place + 1]]) + packet[place + 1 :]
+    return whole[:place] + rng.choice([b"", byte, byte + whole[place : place + 1]]) + whole[place + 1 :]
 
 
-def no_packet(place):
+def fault_17(place):
     words = f"no number that the format allows starts at byte {place}, or bytes are left over from there on."
     return f"{refused(17, place)} {words}"
 
@@ -92,34 +93,34 @@ def no_packet(place):
 
 # The packet that docs/RULES.md has worked by hand, number by number. It posts what `sold` posts.
 NUMBERS = {
-    "hour": "08",
-    "price": "e0d403",
-    "number of lines": "02",
-    "class of line 1": "01",
-    "cause of line 1": "00",
-    "injected of line 1": "e807",
-    "withdrawn of line 1": "00",
-    "gross of line 1": "00",
-    "factor of line 1": "98e605",
-    "cost of line 1": "00",
-    "class of line 2": "01",
-    "cause of line 2": "00",
-    "injected of line 2": "00",
-    "withdrawn of line 2": "ca07",
-    "gross of line 2": "00",
-    "factor of line 2": "f09c06",
-    "cost of line 2": "00",
+    "hour": bytes([8]),
+    "price": bytes([224, 212, 3]),
+    "number of lines": bytes([2]),
+    "class of line 1": bytes([1]),
+    "cause of line 1": bytes([0]),
+    "injected of line 1": bytes([232, 7]),
+    "withdrawn of line 1": bytes([0]),
+    "gross of line 1": bytes([0]),
+    "factor of line 1": bytes([152, 230, 5]),
+    "cost of line 1": bytes([0]),
+    "class of line 2": bytes([1]),
+    "cause of line 2": bytes([0]),
+    "injected of line 2": bytes([0]),
+    "withdrawn of line 2": bytes([202, 7]),
+    "gross of line 2": bytes([0]),
+    "factor of line 2": bytes([240, 156, 6]),
+    "cost of line 2": bytes([0]),
 }
-PACKET = bytes.fromhex("".join(NUMBERS.values()))
-STARTS = dict(zip(NUMBERS, accumulate((len(digits) // 2 for digits in NUMBERS.values()), initial=0)))
+PACKET = b"".join(NUMBERS.values())
+STARTS = dict(zip(NUMBERS, accumulate(map(len, NUMBERS.values()), initial=0)))
 
 # The largest packet: 64 lines of the largest figures.
 LARGEST = hour_packet(HUGE, HUGE, [[HUGE] * 7] * 64)
 
 
-def with_number(name, digits):
-    """The packet worked by hand with one number replaced by these bytes."""
-    return bytes.fromhex("".join({**NUMBERS, name: digits}.values()))
+def with_number(name, spelling):
+    """The packet worked by hand with these bytes in the place of one number."""
+    return b"".join({**NUMBERS, name: spelling}.values())
 
 
 def worked():
@@ -136,17 +137,17 @@ def worked():
     )
     digits = PACKET.hex()
     mixed = "".join(c.upper() if place % 3 else c for place, c in enumerate(digits))
-    for name, written in (("small digits", digits), ("capital digits", digits.upper()), ("digits of either case", mixed)):
-        yield name, PAIR, block(), (f"packet {written}\n", ACCEPTED), end
+    for name, word in (("small digits", digits), ("capital digits", digits.upper()), ("digits of either case", mixed)):
+        yield name, PAIR, block(), (f"packet {word}\n", ACCEPTED), end
     yield "more spaces", PAIR, block(), (f"  packet   {digits}  \n", ACCEPTED), end
     yield "written by the model", PAIR, block(), (packet(*sold_lines(), hour=8, price=60_000), ACCEPTED), end
     yield "no last line feed", PAIR, (f"packet {digits}", ACCEPTED)
-    spelled_by_hand = {127: "7f", 128: "8001", 300: "ac02", 16_383: "ff7f", 16_384: "808001", 4_000_000: "8092f401"}
-    steps = []
+    spelled_by_hand = {127: [127], 128: [128, 1], 300: [172, 2], 16_383: [255, 127], 16_384: [128, 128, 1]}
     for kwh, spelling in spelled_by_hand.items():
-        steps.append((sent(with_number("injected of line 1", spelling)), ACCEPTED))
-        steps.append(("statement 1\n", ACCEPTED, f"Injected: {kwh} kilowatt-hours."))
-    yield "numbers worked by hand", PAIR, *steps
+        yield f"{kwh} is spelled {spelling}", PAIR, *(
+            (sent(with_number("injected of line 1", bytes(spelling))), ACCEPTED),
+            ("statement 1\n", ACCEPTED, f"Injected: {kwh} kilowatt-hours."),
+        )
 
 
 def sold_lines():
@@ -158,21 +159,20 @@ def truncated():
     for length in range(1, len(PACKET)):
         place = max(start for start in STARTS.values() if start <= length)
         yield f"{length} bytes of {len(PACKET)}", PAIR, *(
-            (sent(PACKET[:length]), no_packet(place)),
+            (sent(PACKET[:length]), fault_17(place)),
             ("withdraw hour 8\n", refused(9, 8)),
         )
-    yield "the largest but its last byte", PAIR, (sent(LARGEST[:-1]), no_packet(len(LARGEST) - 5))
+    yield "the largest but its last byte", PAIR, (sent(LARGEST[:-1]), fault_17(len(LARGEST) - 5))
 
 
 def every_value():
     """Each byte in turn has every value, the one with the top bit turned among them. What it then says the model says alone."""
     for place in range(len(PACKET)):
-        packets = [PACKET[:place] + bytes([byte]) + PACKET[place + 1 :] for byte in range(256)]
-        yield f"byte {place}", PAIR, *unforeseen(packets)
+        yield f"byte {place}", PAIR, *unforeseen(PACKET[:place] + bytes([byte]) + PACKET[place + 1 :] for byte in range(256))
 
 
 def unforeseen(packets):
-    return [(sent(packet), "") for packet in packets] + [("statements\n", ACCEPTED)]
+    return [*((sent(data), "") for data in packets), ("statements\n", ACCEPTED)]
 
 
 def changed():
@@ -184,31 +184,23 @@ def changed():
         yield f"byte {byte} put in", PAIR, *unforeseen(PACKET[:place] + bytes([byte]) + PACKET[place:] for place in places)
     swapped = [PACKET[:p] + PACKET[p : p + 2][::-1] + PACKET[p + 2 :] for p in places]
     yield "neighbours swapped", PAIR, *unforeseen(swapped)
-    bits = [PACKET[:p] + bytes([PACKET[p] ^ 128]) + PACKET[p + 1 :] for p in places]
-    yield "a top bit turned", PAIR, *[(sent(packet), "refused, fault 17 at ") for packet in bits]
+    turned = [PACKET[:p] + bytes([PACKET[p] ^ 128]) + PACKET[p + 1 :] for p in places]
+    yield "a top bit turned", PAIR, *[(sent(data), "refused, fault 17 at ") for data in turned]
 
 
 def figures():
     """Each number in turn with more groups than it needs, above 32 bits, and the largest of 32 bits."""
-    faults = {
-        "hour": refused(4, HUGE),
-        "price": refused(5, 0),
-        "number of lines": no_packet(4),
-        "class": refused(6),
-        "cause": refused(6),
-    }
-    for name, start in STARTS.items():
-        if name not in NUMBERS:
-            continue
-        number = bytes.fromhex(NUMBERS[name])
-        longer = number[:-1].hex() + f"{number[-1] + 128:02x}"
-        overlong = [longer + "80" * more + "00" for more in (0, 1, 3, 7, 8, 9, 50)]
-        label, _, of_line = name.partition(" of line ")
-        fault = refused(6 if label in ("class", "cause") else 5, of_line) if of_line else faults[name]
-        too_large = [spelled(value).hex() for value in (2**32, 2**35, 2**64 - 1, 2**64, 2**90)]
+    too_large = [spelled(value) for value in (2**32, 2**35, 2**64 - 1, 2**64, 2**90)]
+    largest = {"hour": refused(4, HUGE), "price": refused(5), "number of lines": fault_17(4)}
+    for line_number in (1, 2):
+        for label in ("class", "cause", "injected", "withdrawn", "gross", "factor", "cost"):
+            largest[f"{label} of line {line_number}"] = refused(6 if label in ("class", "cause") else 5, line_number)
+    for name, answer in largest.items():
+        number = NUMBERS[name]
+        overlong = [number[:-1] + bytes([128 + number[-1], *[128] * more, 0]) for more in (0, 1, 3, 7, 8, 9, 50)]
         yield name, PAIR, *(
-            *[(sent(with_number(name, digits)), no_packet(start)) for digits in (*overlong, *too_large)],
-            (sent(with_number(name, "ffffffff0f")), fault),
+            *[(sent(with_number(name, spelling)), fault_17(STARTS[name])) for spelling in (*overlong, *too_large)],
+            (sent(with_number(name, b"\xff\xff\xff\xff\x0f")), answer),
             ("withdraw hour 8\n", refused(9, 8)),
         )
 
@@ -219,25 +211,24 @@ def line_counts():
         yield f"{count} for as many agents", book, (packet(*quiet(count)), ACCEPTED), ("withdraw hour 0\n", ACCEPTED)
     for count in (0, 65, 66, 127, 128, 300):
         yield f"{count}", opened(*[(2,)] * 64), *(
-            (packet(*quiet(count), price=0), no_packet(2)),
-            (sent(b"\0\0" + spelled(count)), no_packet(2)),
-            (sent(hour_packet(HUGE, HUGE, [[0] * 7] * count)), no_packet(10)),
+            (packet(*quiet(count), price=0), fault_17(2)),
+            (sent(b"\0\0" + spelled(count)), fault_17(2)),
+            (sent(hour_packet(HUGE, HUGE, [[0] * 7] * count)), fault_17(10)),
         )
     for count in (1, 3, 64):
         yield f"{count} for 2 agents", PAIR, (packet(*quiet(count)), refused(5, 0))
-    more, fewer = with_number("number of lines", "03"), with_number("number of lines", "01")
-    yield "one more than there are", PAIR, (sent(more), no_packet(len(PACKET)))
-    yield "one fewer than there are", PAIR, (sent(fewer), no_packet(STARTS["class of line 2"]))
+    more, fewer = with_number("number of lines", b"\3"), with_number("number of lines", b"\1")
+    yield "one more than there are", PAIR, (sent(more), fault_17(len(PACKET)))
+    yield "one fewer than there are", PAIR, (sent(fewer), fault_17(STARTS["class of line 2"]))
 
 
 def left_over():
-    tails = {"00": "a zero", "01": "a one", "80": "half a number", "ff": "the largest byte", PACKET.hex(): "another packet", "00" * 5_000: "5,000 bytes"}
-    for digits, name in tails.items():
-        tail = bytes.fromhex(digits)
-        yield f"{name}", PAIR, (sent(PACKET + tail), no_packet(25)), ("withdraw hour 8\n", refused(9, 8))
+    tails = [("a zero", b"\0"), ("a one", b"\1"), ("half a number", b"\x80"), ("the largest byte", b"\xff")]
+    for name, tail in (*tails, ("another packet", PACKET), ("5,000 bytes", bytes(5_000))):
+        yield name, PAIR, (sent(PACKET + tail), fault_17(25)), ("withdraw hour 8\n", refused(9, 8))
     least = hour_packet(0, 0, [[0] * 7])
-    yield "after the smallest packet", opened((2,)), (sent(least), refused(5, 1)), (sent(least + b"\0"), no_packet(10))
-    yield "after the largest packet", PAIR, (sent(LARGEST), refused(4, HUGE)), (sent(LARGEST + b"\0"), no_packet(2_251))
+    yield "after the smallest packet", opened((2,)), (sent(least), refused(5, 1)), (sent(least + b"\0"), fault_17(10))
+    yield "after the largest packet", PAIR, (sent(LARGEST), refused(4, HUGE)), (sent(LARGEST + b"\0"), fault_17(2_251))
 
 
 # ---- The faults of a posting, by packet
@@ -255,11 +246,11 @@ def before():
         (7, 0, bytes_of(over, over)),
         (8, 0, bytes_of(due, line())),
     ]
-    for number, place, packet in faulty:
+    for number, place, data in faulty:
         yield f"17 before {number} at {place}", PAIR, *(
-            (sent(packet), refused(number, place)),
-            (sent(packet + b"\0"), no_packet(len(packet))),
-            (sent(packet[:-1]), no_packet(len(packet) - 1)),
+            (sent(data), refused(number, place)),
+            (sent(data + b"\0"), fault_17(len(data))),
+            (sent(data[:-1]), fault_17(len(data) - 1)),
         )
 
 
@@ -317,7 +308,7 @@ def answer_by_packets(text, answer):
 # ---- Packets beside posts, contracts and a closing
 
 WHOLE = sent(PACKET), ACCEPTED
-CUT_OFF = sent(PACKET[:-1]), no_packet(24)
+CUT_OFF = sent(PACKET[:-1]), fault_17(24)
 OTHER = dict(hour=8, price=90_000)
 OTHER_LINES = line(injected=10), line(withdrawn=7)
 
@@ -335,7 +326,8 @@ def corrected():
     yield "a packet by a packet", PAIR, WHOLE, first, sent_other, other, WHOLE, first
     yield "a packet and a post alike", PAIR, WHOLE, posted, first, WHOLE, first
     yield "a refused packet leaves a post", PAIR, posted, CUT_OFF, first
-    yield "a refused packet leaves a packet", PAIR, sent_other, CUT_OFF, (sent(with_number("class of line 1", "04")), refused(6, 1)), other
+    bad_class = sent(with_number("class of line 1", b"\4")), refused(6, 1)
+    yield "a refused packet leaves a packet", PAIR, sent_other, CUT_OFF, bad_class, other
     yield "a refused post leaves a packet", PAIR, WHOLE, (post(*quiet(3), hour=8), refused(5, 0)), first
     yield "a packet withdrawn and posted", PAIR, *(
         WHOLE,
