@@ -3,7 +3,7 @@ packet, and packets beside posts, contracts and a closing, settled and audited. 
 
 import random
 import re
-from itertools import accumulate, islice
+from itertools import accumulate, cycle, islice
 
 import audit_cases
 import cases
@@ -60,25 +60,19 @@ def bytes_of_posting(posting):
     return bytes_of(*posting[3].splitlines(), hour=int(posting[1]), price=int(posting[2]))
 
 
+def some_by_packets(text, chosen, made=bytes):
+    """The journal with a packet for each posting that has lines and is chosen; what is made of the packet is sent."""
+    return POSTING.sub(lambda posting: sent(made(bytes_of_posting(posting))) if chosen() else posting[0], text)
+
+
 def by_packets(text):
-    """The journal with a packet for each posting that has a line."""
-    return POSTING.sub(lambda posting: sent(bytes_of_posting(posting)), text)
+    return some_by_packets(text, lambda: True)
 
 
-def some_by_packets(rng, text, damaged=0.0):
-    """The journal with a packet for about every other posting, of which this part is damaged."""
-
-    def carried(posting):
-        if rng.random() < 0.5:
-            return posting[0]
-        whole = bytes_of_posting(posting)
-        return sent(damage(rng, whole) if rng.random() < damaged else whole)
-
-    return POSTING.sub(carried, text)
-
-
-def damage(rng, whole):
-    """A packet with one byte left out, changed or put in."""
+def perhaps_damaged(rng, whole, damaged):
+    """The packet, or with this likelihood the packet with one byte left out, changed or put in."""
+    if rng.random() >= damaged:
+        return whole
     place = rng.randrange(len(whole))
     byte = bytes([rng.choice([0, 1, 127, 128, 255, rng.randrange(256)])])
     return whole[:place] + rng.choice([b"", byte, byte + whole[place : place + 1]]) + whole[place + 1 :]
@@ -465,9 +459,10 @@ def counted():
 
 
 def audited():
-    """The audits worked by hand, with packets for about every other posting."""
+    """The audits worked by hand, with packets for every other posting."""
     for name, text, *wanted in audit_cases.worked():
-        yield name, some_by_packets(random.Random(name), text), *wanted
+        turns = cycle([True, False])
+        yield name, some_by_packets(text, lambda: next(turns)), *wanted
 
 
 def malformed_audits():
@@ -480,8 +475,10 @@ def malformed_audits():
 
 def drawn_journals():
     to_be_closed = islice(drawn.every_journal(), drawn.SMALL_JOURNALS, drawn.SMALL_JOURNALS + DRAWN_TO_BE_CLOSED)
-    for seed, (name, text) in enumerate([*islice(drawn.every_journal(), DRAWN), *to_be_closed]):
-        yield name, some_by_packets(random.Random(4000 + seed), text, damaged=0.2)
+    journals = [(0.2, *case) for case in islice(drawn.every_journal(), DRAWN)] + [(0.02, *case) for case in to_be_closed]
+    for seed, (damaged, name, text) in enumerate(journals):
+        rng = random.Random(4000 + seed)
+        yield name, some_by_packets(text, lambda: rng.random() < 0.5, lambda whole: perhaps_damaged(rng, whole, damaged))
 
 
 def drawn_packets():
