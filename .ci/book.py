@@ -7,6 +7,8 @@ postings that stand, and whether the month is closed, and works every statement 
 from itertools import accumulate
 from typing import NamedTuple
 
+from packets import NoPacket, read_hour_packet
+
 # ---- Limits
 
 AGENTS = 64
@@ -196,6 +198,15 @@ class Book:
             faults.append((8, 0))
         refuse_first(faults)
         self.standing[hour] = posting
+
+    def post_packet(self, packet):
+        """Posts the hour that a packet carries."""
+        self.only_open()
+        try:
+            hour, price, lines = read_hour_packet(packet)
+        except NoPacket as reason:
+            raise Refused(17, *reason.args) from None
+        self.post(hour, Posting(price, [Line(*figures) for figures in lines]))
 
     def withdraw(self, hour):
         self.only_open()

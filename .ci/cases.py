@@ -521,7 +521,6 @@ NO_CALL = [
         f"contract 1 kind 1 seller 1 buyer 2 place {place} first 0 last 23 price 1 peak 1 medium 1 base 1 margin 0"
         for place in ("bar", "Market", "generator", 0, 4, 5, 11, HUGE, HUGE + 1)
     ],
-    "packet 08",
     "cancel",
     "cancel x",
     "cancel -1",

@@ -21,7 +21,8 @@ def every_case():
 # ---- How a case is written
 
 # How many words of a call are its name.
-NAMES = {"open": 1, "contract": 2, "cancel": 2, "post": 3, "withdraw": 3, "close": 1, "statement": 2, "statements": 1}
+NAMES = {"open": 1, "contract": 2, "cancel": 2, "post": 3, "packet": 1, "withdraw": 3}
+NAMES |= {"close": 1, "statement": 2, "statements": 1}
 
 
 def told(*steps):

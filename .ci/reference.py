@@ -6,6 +6,7 @@
 It reads a journal and prints what `gibzurg` should print, written from docs/JOURNAL.md alone. The rules are in book.py.
 """
 
+import string
 import sys
 from typing import NamedTuple
 
@@ -31,6 +32,7 @@ FAULTS = {
     12: "the contract number is outside 1 to 64, taken or not standing",
     13: "the contract's parties, hours, figures or terms do not fit",
     14: "a covered hour stands",
+    17: "no number that the format allows starts at byte {place}, or bytes are left over from there on",
 }
 
 # ---- What is printed of statements
@@ -78,6 +80,9 @@ def show_all(book):
 
 # ---- The journal
 
+# What a packet is written in.
+DIGITS = "hexadecimal digits, two for each byte"
+
 # The labels of each form, in order, with the words that may stand for a number.
 FORMS = {
     "open": [("agents", {}), ("days", {}), ("weekday", WEEKDAYS)],
@@ -86,6 +91,7 @@ FORMS = {
     + [(label, {}) for label in ("first", "last", "price", "peak", "medium", "base", "margin")],
     "cancel": [("", {})],
     "post": [("hour", {}), ("price", {})],
+    "packet": [("", DIGITS)],
     "line": [("class", CLASSES)] + [(label, {}) for label in ("cause", "injected", "withdrawn", "gross", "factor", "cost")],
     "withdraw": [("hour", {})],
     "close": [],
@@ -134,7 +140,9 @@ def read_figures(number, words):
         if label and next(rest, None) != label:
             raise Malformed(number, label)
         word = next(rest, "")
-        if word in names:
+        if names is DIGITS:
+            figures.append(read_bytes(number, word))
+        elif word in names:
             figures.append(names[word])
         elif word and all(c in "0123456789" for c in word) and int(word) < 2**32:
             figures.append(int(word))
@@ -145,6 +153,13 @@ def read_figures(number, words):
     if next(rest, None) is not None:
         raise Malformed(number, "the end of the line")
     return figures
+
+
+def read_bytes(number, word):
+    """The bytes that the digits of a packet give."""
+    if word == "" or len(word) % 2 or any(c not in string.hexdigits for c in word):
+        raise Malformed(number, DIGITS)
+    return bytes.fromhex(word)
 
 
 class Call(NamedTuple):
@@ -159,7 +174,7 @@ def calls(journal):
     while journal.left:
         number, form, figures = journal.take(*CALLS)
         label = " hour" if form in ("post", "withdraw") else ""
-        name = f"{form}{label} {figures[0]}" if figures and form != "open" else form
+        name = f"{form}{label} {figures[0]}" if figures and form not in ("open", "packet") else form
         if form == "open":
             count, days, weekday = figures
             figures = [days, weekday, read_agents(journal, count)]
@@ -198,7 +213,8 @@ def hear(book, call):
             return "accepted", show_statement(book, call.given[0], book.statement(*call.given))
         if call.form == "statements":
             return "accepted", show_all(book)
-        change = dict(contract=book.enter, cancel=book.cancel, post=book.post, withdraw=book.withdraw, close=book.close)
+        change = dict(contract=book.enter, cancel=book.cancel, withdraw=book.withdraw, close=book.close)
+        change |= dict(post=book.post, packet=book.post_packet)
         change[call.form](*call.given)
         return "accepted", []
     except Refused as refusal:
@@ -209,7 +225,7 @@ def hear(book, call):
 
 def refused(refusal):
     fault, place = refusal.args
-    return f"refused, fault {fault} at {place}, {FAULTS[fault]}"
+    return f"refused, fault {fault} at {place}, {FAULTS[fault].format(place=place)}"
 
 
 def open_book(call):
