@@ -114,17 +114,29 @@ impl Audited {
         calls: &[Call],
         lines: &[usize],
     ) -> Result<Vec<Difference>, AllocError> {
-        let found = &self.found;
-        let mut differences = differing_answers(heap, calls, lines, found)?;
-        let (first, second) = (&found.statements, &found.statements_without);
-        for (agent, (one, other)) in (1u32..).zip(first.iter().zip(second)) {
+        let mut differences = differing_answers(heap, calls, lines, &self.found)?;
+        self.compare_strangers(&mut differences)?;
+        self.compare_again(&mut differences)?;
+        Ok(differences)
+    }
+
+    /// Adds what differs in the second book for the agents that are party to no standing contract.
+    fn compare_strangers(&self, differences: &mut Vec<Difference>) -> Result<(), AllocError> {
+        let statements = self.found.statements.iter().zip(&self.found.statements_without);
+        for (agent, (one, other)) in (1u32..).zip(statements) {
             if is_stranger(agent.saturating_sub(1), &self.contracts) {
-                compare(&mut differences, Books::FirstAndSecond, agent, one, other)?;
+                compare(differences, Books::FirstAndSecond, agent, one, other)?;
             }
         }
-        for (agent, (one, other)) in (1u32..).zip(first.iter().zip(&found.statements_again)) {
-            compare(&mut differences, Books::FirstAndThird, agent, one, other)?;
+        Ok(())
+    }
+
+    /// Adds what differs in the third book.
+    fn compare_again(&self, differences: &mut Vec<Difference>) -> Result<(), AllocError> {
+        let statements = self.found.statements.iter().zip(&self.found.statements_again);
+        for (agent, (one, other)) in (1u32..).zip(statements) {
+            compare(differences, Books::FirstAndThird, agent, one, other)?;
         }
-        Ok(differences)
+        Ok(())
     }
 }

@@ -17,6 +17,8 @@ post hour 8 price 60000
 line class normal cause 0 injected 1000 withdrawn 0 gross 0 factor 95000 cost 0
 line class normal cause 0 injected 0 withdrawn 970 gross 0 factor 102000 cost 0
 statement 2
+# the same posting as a packet
+packet 08E0D403020100E807000098E60500010000CA0700F09C0600
 statements
 withdraw hour 8
 cancel 1

@@ -31,8 +31,3 @@ posting_read (Ok figures) places heading is =
     (λ k. Ok (record { hour = (e k).hour; price = (e k).price; lines = take (e k).count (map line_in (lines ++ drop n places)) }))
     ∙ ap (λ ls. Ok (record { hour = slice_index figures 0; price = slice_index figures 1; lines = ls })) (take-map line_in n (lines ++ drop n places))
     ∙ ap (posted_hour (slice_index figures 0) (slice_index figures 1)) (take_at lines (drop n places) n (lines_of_length n (drop 3 figures)))
-
--- and where nothing was, the figures say nothing
-pub nothing_read : (w : Result (List ℕ) ByteFault) (fault : ByteFault) → Err fault ≡ and_then w (λ figures. Ok (heading_of figures)) → w ≡ Err fault
-nothing_read (Ok figures) fault is = cc
-nothing_read (Err other) fault is = cc

@@ -1,6 +1,5 @@
 -- The faults by number and place, and how one of several is answered. Assumes nothing.
 use Rattle.std.specs.Prelude.{ℕ, Bool, cond, List, [], ◌∷◌, Some, None, Ok, Err, Option, Result}
-use Rattle.packets.specs.declared.faults.ByteFault.{ByteFault}
 use Rattle.packets.specs.Faults.{number_of as byte_number, place_of as byte_place}
 use Rattle.settlement.specs.declared.faults.LineFault.{LineFault}
 use Rattle.settlement.specs.declared.faults.LineFault.TheVariants.{Packet, HourOutside, OutsideLimit, BreaksRule, TooMuchTogether}

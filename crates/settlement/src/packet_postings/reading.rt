@@ -7,17 +7,6 @@ use crate::lines::Line;
 use crate::packet_postings::{MOST_LINES, PacketPosting};
 use packets::{PacketLine, read_hour};
 
-/// A line of no figures.
-const NO_LINE: Line = Line {
-    class: 0,
-    cause: 0,
-    injected: 0,
-    withdrawn: 0,
-    gross: 0,
-    factor: 0,
-    cost: 0,
-};
-
 /// The line of a posting that a packet's line says.
 impl From<PacketLine> for Line {
     ghost from_gives = { λ line r. r ≡ line_in line };
@@ -61,7 +50,7 @@ impl PacketPosting {
     {
         let mut read = [PacketLine::NONE; MOST_LINES];
         let heading = read_hour(bytes, &mut read)?;
-        let mut lines = [NO_LINE; MOST_LINES];
+        let mut lines = [Line::from(PacketLine::NONE); MOST_LINES];
         fill_lines(&read, &mut lines);
         Ok(PacketPosting {
             hour: heading.hour,

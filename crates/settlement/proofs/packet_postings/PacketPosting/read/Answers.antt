@@ -1,5 +1,4 @@
-use Rattle.std.proofs.Common.{List, map, take, Result, Ok, sym, ap, ◌∙◌}
-use Rattle.packets.specs.declared.hours.PacketLine.{PacketLine}
+use Rattle.std.proofs.Common.{List, map, take, Result, Ok, ap, ◌∙◌}
 use Rattle.packets.specs.Formats.{whole}
 use Rattle.packets.specs.HourPackets.{hour_format}
 use Rattle.settlement.specs.declared.faults.LineFault.{LineFault}
