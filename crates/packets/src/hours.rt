@@ -45,7 +45,7 @@ pub struct HourHeading {
 
 impl PacketLine {
     /// A line of no figures.
-    const NONE: PacketLine = PacketLine {
+    pub const NONE: PacketLine = PacketLine {
         class: 0,
         cause: 0,
         injected: 0,
