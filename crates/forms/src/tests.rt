@@ -1,7 +1,9 @@
-// Worked figures of blocks and shares, and the limits of terms and facts on both sides.
+// Worked figures of blocks and shares.
+mod limits;
+
 use crate::{
     Contract, ContractForm, ContractHour, Delivery, Facts, Legs, Parties, Party, Product, Role,
-    UnknownRole, is_measured, is_valid, settle_hour,
+    UnknownRole, settle_hour,
 };
 use calendar::Band;
 use std::test::Fail;
@@ -169,81 +171,6 @@ fn terms_that_are_taken(rt: HostRuntime) {
             Product.takes(terms, between(seller, buyer, capacity)),
             taken
         );
-    }
-}
-
-#[test]
-fn terms_that_are_valid(rt: HostRuntime) {
-    for (seller, buyer, valid) in [
-        (1, 1, false),
-        (1, 2, true),
-        (1, 3, true),
-        (1, 4, false),
-        (2, 1, false),
-        (2, 2, false),
-        (2, 3, true),
-        (3, 2, false),
-        (0, 2, false),
-    ] {
-        assert_eq!(rt; is_valid(BLOCK, between(seller, buyer, 4_000_000)), valid);
-    }
-    // parties, hours, price, quantity, the seller's capacity; whether they are valid
-    let cases: [(u32, u32, u32, u32, u32, u32, u32, bool); 12] = [
-        (64, 1, 743, 743, 2_000_000, 4_000_000, 4_000_000, true),
-        (65, 1, 743, 743, 2_000_000, 4_000_000, 4_000_000, false),
-        (0, 1, 743, 743, 2_000_000, 4_000_000, 4_000_000, false),
-        (1, 64, 0, 0, 0, 0, 0, true),
-        (1, 65, 0, 0, 0, 0, 0, false),
-        (1, 0, 0, 0, 0, 0, 0, false),
-        (1, 2, 1, 0, 0, 0, 0, false),
-        (1, 2, 0, 744, 0, 0, 0, false),
-        (1, 2, 0, 743, 2_000_001, 0, 0, false),
-        (1, 2, 0, 743, 0, 4_000_001, 0, false),
-        (1, 2, 0, 743, 0, 0, 4_000_001, false),
-        (1, 2, 0, 743, 0, 1, 0, true),
-    ];
-    for (seller, buyer, first, last, price, quantity, capacity, valid) in cases {
-        let terms = Contract {
-            seller,
-            buyer,
-            first,
-            last,
-            price,
-            peak: quantity,
-            margin: quantity,
-            ..BLOCK
-        };
-        assert_eq!(rt; is_valid(terms, between(1, 2, capacity)), valid);
-    }
-}
-
-#[test]
-fn facts_that_are_measured(rt: HostRuntime) {
-    // the buyer's role, price, factor, injected, withdrawn by the buyer and by all distributors; whether they are measured
-    let cases: [(u32, u32, u32, u32, u32, u32, bool); 12] = [
-        (2, 2_000_000, 50_000, 4_000_000, 900, 4_000_000, true),
-        (2, 2_000_001, 50_000, 4_000_000, 900, 4_000_000, false),
-        (2, 2_000_000, 49_999, 4_000_000, 900, 4_000_000, false),
-        (2, 2_000_000, 150_000, 4_000_000, 900, 4_000_000, true),
-        (2, 2_000_000, 150_001, 4_000_000, 900, 4_000_000, false),
-        (2, 2_000_000, 50_000, 4_000_001, 900, 4_000_000, false),
-        (2, 2_000_000, 50_000, 4_000_000, 900, 4_000_001, false),
-        (2, 0, 50_000, 0, 900, 900, true),
-        (2, 0, 50_000, 0, 901, 900, false),
-        (3, 0, 50_000, 0, 901, 900, true),
-        (3, 0, 50_000, 0, 3_999_100, 900, true),
-        (3, 0, 50_000, 0, 3_999_101, 900, false),
-    ];
-    for (role, price, factor, injected, withdrawn, distributors_withdrawn, measured) in cases {
-        let facts = Facts {
-            price,
-            seller_factor: factor,
-            injected,
-            withdrawn,
-            distributors_withdrawn,
-            ..FACTS
-        };
-        assert_eq!(rt; is_measured(between(1, role, 0), facts), measured);
     }
 }
 

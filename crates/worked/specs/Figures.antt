@@ -1,5 +1,5 @@
 -- The figures that the rules give for inputs small enough to be worked by hand. Assumes nothing.
-use Rattle.std.specs.Prelude.{ℕ, List, [], ◌∷◌, ℤ, pos}
+use Rattle.std.specs.Prelude.{ℕ, List, [], ◌∷◌, map, ℤ, pos}
 use Rattle.calendar.specs.Bands.{band_of}
 use Rattle.calendar.specs.declared.bands.Band.{Band}
 use Rattle.calendar.specs.declared.bands.Band.TheVariants.{Peak, Medium, Base}
@@ -9,6 +9,9 @@ use Rattle.forms.specs.declared.Delivery.TheVariants.{MarketBar}
 use Rattle.forms.specs.declared.Facts.{Facts}
 use Rattle.forms.specs.declared.Parties.{Parties}
 use Rattle.forms.specs.Layers.{product_meaning}
+use Rattle.meter.specs.declared.quarters.Quarter.{Quarter}
+use Rattle.meter.specs.Quarters.{net_kwh, external_kwh, auxiliaries_kwh}
+use Rattle.packets.specs.Numbers.{spelled}
 use Rattle.valuation.specs.Amounts.{amount_of}
 use Rattle.valuation.specs.Excess.{excess_of}
 use Rattle.valuation.specs.Sharing.{part_of}
@@ -59,6 +62,10 @@ share_facts = record {
 abbrev pub shared_with : (margin : ℕ) → ℕ
 shared_with margin = product_meaning.quantity (share_with margin) share_parties share_facts
 
+-- a quarter of an hour in which a plant generated 10 kWh, and took 5 kWh from the net for itself
+abbrev pub quarter_counted : Quarter
+quarter_counted = record { gross_delivered = 10; gross_received = 0; net_delivered = 0; net_received = 5 }
+
 -- the table: each row is a definition of the rules at its inputs
 abbrev pub figures : List ℤ
 figures =
@@ -92,4 +99,11 @@ figures =
     ∷ month_balance 1
     -- the residue of the month
     ∷ month_residue
-    ∷ []
+    -- the net energy of the quarter
+    ∷ pos (net_kwh quarter_counted)
+    -- its external auxiliaries
+    ∷ pos (external_kwh quarter_counted)
+    -- its auxiliaries
+    ∷ pos (auxiliaries_kwh quarter_counted)
+    -- the bytes of 300 in a packet, all of them: the first and the last
+    ∷ map pos (spelled 300)

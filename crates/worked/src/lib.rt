@@ -8,8 +8,8 @@ ghost use Rattle.worked.specs.Figures.{figures};
 mod tests;
 
 /// The figures worked by hand, each of which is what the rules give: a host may print them, or hold its own working against them.
-/// Amounts are in points and quantities in kWh; a band is 1 for peak, 2 for medium and 3 for base.
-pub fn worked_figures() -> [i64; 15]
+/// Amounts are in points and quantities in kWh; a band is 1 for peak, 2 for medium and 3 for base; a byte of a packet is a number.
+pub fn worked_figures() -> [i64; 20]
     ensures { result ≡ figures }
 {
     [
@@ -28,5 +28,10 @@ pub fn worked_figures() -> [i64; 15]
         560_000, // the generator's balance of a month with one posted hour and a block of 100 kWh
         -583_640, // the distributor's
         23_640, // the residue of that month
+        0, // the net energy of a quarter with gross 10 delivered and net 5 received
+        5, // its external auxiliaries
+        15, // its auxiliaries
+        172, // the first of the two bytes of 300 in a packet
+        2, // the second
     ]
 }

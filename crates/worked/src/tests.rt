@@ -4,7 +4,7 @@ use crate::worked_figures;
 #[test]
 fn figures_in_their_places(rt: HostRuntime) {
     // what is worked; the figure
-    let cases: [(&str, i64); 15] = [
+    let cases: [(&str, i64); 20] = [
         ("amount at price 51,234", 502_093),
         ("amount at price 50", 1),
         ("amount at price 49", 0),
@@ -20,6 +20,11 @@ fn figures_in_their_places(rt: HostRuntime) {
         ("the generator's balance", 560_000),
         ("the distributor's balance", -583_640),
         ("residue of the month", 23_640),
+        ("net energy of a quarter", 0),
+        ("its external auxiliaries", 5),
+        ("its auxiliaries", 15),
+        ("first byte of 300", 172),
+        ("second byte of 300", 2),
     ];
     for ((name, points), worked) in cases.into_iter().zip(worked_figures()) {
         assert_eq!(rt; worked, points, "{name}");

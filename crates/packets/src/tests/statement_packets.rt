@@ -2,7 +2,7 @@
 use super::BEFORE;
 use crate::{ByteFault, StatementFigures, read_statement, write_statement};
 
-const STATEMENT: StatementFigures = StatementFigures {
+pub(super) const STATEMENT: StatementFigures = StatementFigures {
     state: 1,
     agent: 2,
     market: -593_640,
@@ -17,16 +17,11 @@ const STATEMENT: StatementFigures = StatementFigures {
 };
 
 /// The same: state and agent, the lines, the balance, the energies and the peak.
-const BYTES: [u8; 19] = [
+pub(super) const BYTES: [u8; 19] = [
     0x01, 0x02, //
     0xCF, 0xBB, 0x48, 0xA0, 0x9C, 0x01, 0x00, 0x01, //
     0xB1, 0x9F, 0x47, //
     0x00, 0xCA, 0x07, 0xCA, 0x07, 0x08,
-];
-
-/// Where the number starts that each byte is a part of.
-const STARTS: [u32; 19] = [
-    0, 1, 2, 2, 2, 5, 5, 5, 8, 9, 10, 10, 10, 13, 14, 14, 16, 16, 18,
 ];
 
 /// The figures at their ends, with a sum that wraps.
@@ -52,14 +47,50 @@ const WIDE_BYTES: [u8; 48] = [
     0xFF, 0xFF, 0xFF, 0xFF, 0xFF, 0xFF, 0xFF, 0xFF, 0xFF, 0x01, 0xE7, 0x05,
 ];
 
-/// A packet each of whose numbers is a byte.
-const SMALL: [u8; 11] = [0, 1, 0, 0, 0, 0, 0, 0, 0, 0, 0];
+/// The longest packet: each number past the agent has ten bytes.
+const LONGEST: StatementFigures = StatementFigures {
+    state: 1,
+    agent: 64,
+    market: i64::MIN,
+    contract: i64::MIN,
+    overcost: i64::MAX,
+    power: 4_611_686_018_427_387_904,
+    balance: -4_611_686_018_427_387_905,
+    injected: u64::MAX,
+    withdrawn: u64::MAX,
+    peak_kwh: u64::MAX,
+    peak_hour: u64::MAX,
+};
 
-/// The number and the place of the fault that a packet is refused with.
-fn fault_of(bytes: &[u8]) -> Option<(u32, u32)> {
-    let fault = read_statement(bytes).err()?;
-    Some((fault.number(), fault.place()))
-}
+pub(super) const LONGEST_BYTES: [u8; 92] = [
+    0x01, 0x40, //
+    0xFF, 0xFF, 0xFF, 0xFF, 0xFF, 0xFF, 0xFF, 0xFF, 0xFF, 0x01, //
+    0xFF, 0xFF, 0xFF, 0xFF, 0xFF, 0xFF, 0xFF, 0xFF, 0xFF, 0x01, //
+    0xFE, 0xFF, 0xFF, 0xFF, 0xFF, 0xFF, 0xFF, 0xFF, 0xFF, 0x01, //
+    0x80, 0x80, 0x80, 0x80, 0x80, 0x80, 0x80, 0x80, 0x80, 0x01, //
+    0x81, 0x80, 0x80, 0x80, 0x80, 0x80, 0x80, 0x80, 0x80, 0x01, //
+    0xFF, 0xFF, 0xFF, 0xFF, 0xFF, 0xFF, 0xFF, 0xFF, 0xFF, 0x01, //
+    0xFF, 0xFF, 0xFF, 0xFF, 0xFF, 0xFF, 0xFF, 0xFF, 0xFF, 0x01, //
+    0xFF, 0xFF, 0xFF, 0xFF, 0xFF, 0xFF, 0xFF, 0xFF, 0xFF, 0x01, //
+    0xFF, 0xFF, 0xFF, 0xFF, 0xFF, 0xFF, 0xFF, 0xFF, 0xFF, 0x01,
+];
+
+/// The packet of the fewest bytes: each of its numbers is one.
+pub(super) const SMALL: StatementFigures = StatementFigures {
+    state: 0,
+    agent: 1,
+    market: 0,
+    contract: 0,
+    overcost: 0,
+    power: 0,
+    balance: 0,
+    injected: 0,
+    withdrawn: 0,
+    peak_kwh: 0,
+    peak_hour: 0,
+};
+
+pub(super) const SMALL_BYTES: [u8; 11] = [0, 1, 0, 0, 0, 0, 0, 0, 0, 0, 0];
 
 // An output of so many bytes, and what writing the statement there answers.
 #[test]
@@ -86,10 +117,24 @@ fn a_statement_is_written_and_read(rt: HostRuntime) {
 
 #[test]
 fn the_ends_are_written_and_read(rt: HostRuntime) {
-    assert_eq!(rt; read_statement(&WIDE_BYTES), Ok(WIDE));
-    let mut output = [BEFORE; 48];
-    assert_eq!(rt; write_statement(&WIDE, &mut output), Ok(48));
-    assert_eq!(rt; output, WIDE_BYTES);
+    let cases = [
+        (SMALL, SMALL_BYTES.as_slice()),
+        (WIDE, &WIDE_BYTES),
+        (LONGEST, &LONGEST_BYTES),
+    ];
+    for (figures, bytes) in cases {
+        let size = bytes.len();
+        assert!(rt; 1 <= size && size <= 92);
+        assert_eq!(rt; read_statement(bytes), Ok(figures));
+        let mut output = [BEFORE; 95];
+        assert_eq!(rt;
+            write_statement(&figures, &mut output[..size - 1]),
+            Err(ByteFault::WrongSize)
+        );
+        assert_eq!(rt; write_statement(&figures, &mut output), Ok(size));
+        assert_eq!(rt; &output[..size], bytes);
+        assert_eq!(rt; &output[size..], &[BEFORE; 95][size..]);
+    }
 }
 
 // Figures that no packet can hold, and the place of the first of them; an output with no room is no reason to say otherwise.
@@ -149,6 +194,27 @@ fn figures_that_no_packet_holds(rt: HostRuntime) {
         ),
         (
             StatementFigures {
+                agent: u32::MAX,
+                ..LONGEST
+            },
+            1,
+        ),
+        (
+            StatementFigures {
+                balance: 1,
+                ..SMALL
+            },
+            6,
+        ),
+        (
+            StatementFigures {
+                balance: 4_611_686_018_427_387_904,
+                ..LONGEST
+            },
+            42,
+        ),
+        (
+            StatementFigures {
                 balance: i64::MAX,
                 ..WIDE
             },
@@ -173,113 +239,5 @@ fn figures_that_no_packet_holds(rt: HostRuntime) {
             write_statement(&figures, &mut []),
             Err(ByteFault::Malformed(place))
         );
-    }
-}
-
-#[test]
-fn cut_off_at_each_byte(rt: HostRuntime) {
-    for i in 0..19 {
-        assert_eq!(rt; fault_of(&BYTES[..i]), Some((17, STARTS[i])));
-    }
-}
-
-#[test]
-fn bytes_left_over(rt: HostRuntime) {
-    let mut bytes = [0; 22];
-    bytes[..19].copy_from_slice(&BYTES);
-    for long in 20..=22 {
-        assert_eq!(rt; fault_of(&bytes[..long]), Some((17, 19)));
-    }
-}
-
-/// The small packet with bytes in place of its number at a place, and how many bytes it then has.
-fn with_number(place: usize, bytes: [u8; 11], size: usize) -> ([u8; 21], usize) {
-    let mut packet = [0; 21];
-    let mut long = 0;
-    for (i, byte) in SMALL.into_iter().enumerate() {
-        let (number, count) = if i == place {
-            (bytes, size)
-        } else {
-            ([byte, 0, 0, 0, 0, 0, 0, 0, 0, 0, 0], 1)
-        };
-        for byte in number.into_iter().take(count) {
-            if long < 21 {
-                packet[long] = byte;
-                long += 1;
-            }
-        }
-    }
-    (packet, long)
-}
-
-// The first so many of these bytes in place of each number of the small packet, in which each number starts at its own place.
-#[test]
-fn each_number_wrong(rt: HostRuntime) {
-    let cases = [
-        // one group too many
-        ([0x80, 0x00, 0, 0, 0, 0, 0, 0, 0, 0, 0], 2),
-        ([0x81, 0x80, 0x00, 0, 0, 0, 0, 0, 0, 0, 0], 3),
-        // 2 ^ 64, and eleven groups
-        (
-            [
-                0x80, 0x80, 0x80, 0x80, 0x80, 0x80, 0x80, 0x80, 0x80, 0x02, 0,
-            ],
-            10,
-        ),
-        (
-            [
-                0x80, 0x80, 0x80, 0x80, 0x80, 0x80, 0x80, 0x80, 0x80, 0x80, 0x01,
-            ],
-            11,
-        ),
-    ];
-    for (bytes, size) in cases {
-        for place in 0..11 {
-            let (packet, long) = with_number(place, bytes, size);
-            assert!(rt; long <= 21);
-            assert_eq!(rt; fault_of(&packet[..long]), Some((17, place as u32)));
-        }
-    }
-    // a place, a number there, and where the fault is: a line that is changed makes the balance wrong
-    let cases = [
-        (0, 1, None),
-        (0, 2, Some((17, 0))),
-        (1, 0, Some((17, 1))),
-        (1, 64, None),
-        (1, 65, Some((17, 1))),
-        (2, 1, Some((17, 6))),
-        (5, 2, Some((17, 6))),
-        (6, 1, Some((17, 6))),
-        (6, 2, Some((17, 6))),
-        (7, 127, None),
-        (10, 127, None),
-    ];
-    for (place, byte, fault) in cases {
-        let (packet, long) = with_number(place, [byte, 0, 0, 0, 0, 0, 0, 0, 0, 0, 0], 1);
-        assert!(rt; long <= 21);
-        assert_eq!(rt; fault_of(&packet[..long]), fault);
-    }
-}
-
-// Whatever one byte is changed to, the packet is refused, or it reads to other figures, which are written in these very bytes.
-#[test]
-fn damaged_at_each_byte(rt: HostRuntime) {
-    for i in 0..19 {
-        for change in 1..=255 {
-            let mut damaged = BYTES;
-            damaged[i] ^= change;
-            match read_statement(&damaged) {
-                Ok(figures) => {
-                    assert!(rt; figures != STATEMENT);
-                    let mut output = [BEFORE; 19];
-                    assert_eq!(rt; write_statement(&figures, &mut output), Ok(19));
-                    assert_eq!(rt; output, damaged);
-                }
-                Err(fault) => {
-                    assert_eq!(rt; fault.number(), 17);
-                    assert!(rt; fault.place() <= 19);
-                }
-            }
-        }
     }
 }
