@@ -12,23 +12,14 @@ impl From<PacketLine> for Line {
     ghost from_gives = { λ line r. r ≡ line_in line };
 
     fn from(line: PacketLine) -> Line {
-        let PacketLine {
-            class,
-            cause,
-            injected,
-            withdrawn,
-            gross,
-            factor,
-            cost,
-        } = line;
         Line {
-            class,
-            cause,
-            injected,
-            withdrawn,
-            gross,
-            factor,
-            cost,
+            class: line.class,
+            cause: line.cause,
+            injected: line.injected,
+            withdrawn: line.withdrawn,
+            gross: line.gross,
+            factor: line.factor,
+            cost: line.cost,
         }
     }
 }
