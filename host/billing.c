@@ -55,7 +55,7 @@ static const char *words_of(uint32_t number)
     case GIBZURG_QUARTER:
         return "a quarter's channel, gross or net energy is outside its limit";
     case GIBZURG_MALFORMED:
-        return "no number that the format allows starts there, or bytes are left over";
+        return "no number that the format allows starts at that byte, or bytes are left over from there on";
     default:
         return "a fault that has no words";
     }
@@ -79,13 +79,13 @@ static void meter(const char *day, size_t dump_length, size_t output_length)
     gibzurg_answer answer = gibzurg_meter_day(dump, dump_length, output, output_length);
     int is_accepted = answer.number == 0;
     if (is_accepted) {
-        printf("%s: accepted\n", day);
+        printf("%s: accepted.\n", day);
     } else {
-        printf("%s: refused with fault %" PRIu32 " at place %" PRIu32 ": %s\n", day, answer.number, answer.place, words_of(answer.number));
+        printf("%s: refused, fault %" PRIu32 " at %" PRIu32 ", %s.\n", day, answer.number, answer.place, words_of(answer.number));
     }
     const char *part = is_accepted ? "what lies past the hours" : "the output";
     const char *fate = is_blank_from(is_accepted ? GIBZURG_HOURS_BYTES : 0) ? "stays as it was" : "is not as it was";
-    printf("%s: %s %s\n", day, part, fate);
+    printf("%s: %s %s.\n", day, part, fate);
 }
 
 /* Meters a good day that is damaged by one number. */
@@ -100,7 +100,7 @@ static void tell_hours(const char *day)
 {
     for (int hour = 0; hour < 24; hour++) {
         const uint8_t *told = output + 16 * hour;
-        printf("%s: hour %d has gross %" PRIu32 ", net %" PRIu32 ", external auxiliaries %" PRIu32 " and auxiliaries %" PRIu32 " kWh\n", day, hour,
+        printf("%s, hour %d: gross %" PRIu32 ", net %" PRIu32 ", external auxiliaries %" PRIu32 ", auxiliaries %" PRIu32 " kilowatt-hours.\n", day, hour,
                number_at(told), number_at(told + 4), number_at(told + 8), number_at(told + 12));
     }
 }
@@ -139,9 +139,9 @@ static void check(const char *name, size_t length)
 {
     gibzurg_answer answer = gibzurg_check_statement(packet, length);
     if (answer.number == 0) {
-        printf("%s: accepted\n", name);
+        printf("%s: accepted.\n", name);
     } else {
-        printf("%s: refused with fault %" PRIu32 " at place %" PRIu32 ": %s\n", name, answer.number, answer.place, words_of(answer.number));
+        printf("%s: refused, fault %" PRIu32 " at %" PRIu32 ", %s.\n", name, answer.number, answer.place, words_of(answer.number));
     }
 }
 

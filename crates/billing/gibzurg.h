@@ -40,11 +40,13 @@ typedef struct {
  * number above 1,000,000, gross energy below 0, or net above gross energy. A refusal leaves the output as it was; else what lies past the hours stays. */
 gibzurg_answer gibzurg_meter_day(const uint8_t *dump, size_t dump_length, uint8_t *output, size_t output_length);
 
-/* Checks the packet of an agent's statement: the state, 0 for an open month and 1 for a closed one, the agent, 1 to 64, four lines, their sum as the
- * balance, injected and withdrawn energy, the peak in kWh and its hour, each as a number in groups of seven bits, the lowest first.
+/* Checks the packet of an agent's statement, eleven numbers: the state, 0 for an open month and 1 for a closed one, the agent, 1 to 64, the four lines in
+ * points, their sum as the balance, injected and withdrawn energy in kWh, the peak in kWh and its hour. Each has at most 64 bits and is written in groups of
+ * seven bits, the lowest first, a byte each; the top bit of a byte says that another follows, and there are no more than needed. Lines and balance are signed:
+ * v is written as 2 v, or below zero as -2 v - 1. docs/RULES.md has the whole format.
  *
- * Refused with 17 at the byte, counted from 0, where a number starts that is too large, cut off, written in more groups than needed or outside its limits,
- * or no sum where the balance stands, or where bytes are left over. */
+ * Refused with 17 at the byte, counted from 0, where the first number starts that is cut off, too large, written in more groups than needed or outside its
+ * limits, or a balance that is not the sum of the lines; or at the first byte that is left over. */
 gibzurg_answer gibzurg_check_statement(const uint8_t *bytes, size_t length);
 
 #ifdef __cplusplus

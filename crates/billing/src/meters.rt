@@ -13,13 +13,7 @@ pub extern "C" fn gibzurg_meter_day(dump: &[u8], output: &mut [u8]) -> Answer
     ensures adds_up { result.number ≡ 0 → AddsUp dump.now output.new }
 {
     match read_day(dump, output) {
-        Ok(()) => Answer {
-            number: 0,
-            place: 0,
-        },
-        Err(fault) => Answer {
-            number: fault.number(),
-            place: fault.place(),
-        },
+        Ok(()) => Answer::ACCEPTED,
+        Err(fault) => Answer::from(fault),
     }
 }

@@ -11,13 +11,7 @@ pub extern "C" fn gibzurg_check_statement(bytes: &[u8]) -> Answer
     ensures { result ≡ statement_checked bytes.now }
 {
     match read_statement(bytes) {
-        Ok(_) => Answer {
-            number: 0,
-            place: 0,
-        },
-        Err(fault) => Answer {
-            number: fault.number(),
-            place: fault.place(),
-        },
+        Ok(_) => Answer::ACCEPTED,
+        Err(fault) => Answer::from(fault),
     }
 }

@@ -17,7 +17,7 @@ use forms::{Contract, ContractForm};
 use settlement::{Account, BookFault, Entry, Line, MeasuredPosting, PacketPosting};
 use tally::{Pair, Tally};
 
-// Kept as numbers, as the marks of lent memory are (fixed memory).
+// Kept as numbers, as the marks in lent memory are.
 
 /// The mark of an hour at which nothing stands.
 pub(crate) const FREE: u8 = 0;
@@ -48,7 +48,8 @@ fn write_posting<F: ContractForm>(
 
 /// Posts an hour: its price, and a line for each agent. The posting of an hour that is posted already corrects it. Each standing contract that covers
 /// the hour puts its legs on the parties' contract lines.
-// Kept apart: a struct of hour, price and lines is no plainer, since it would be made at each call and taken apart at once.
+// Kept apart: a host has the lines in memory of its own, and a packet's are read into an array, so a struct of hour, price and lines would be made at
+// each call and taken apart at once.
 pub fn post<F: ContractForm>(
     month: &OpenMonth,
     form: &F,

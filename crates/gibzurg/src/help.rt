@@ -3,11 +3,11 @@
 /// The commands, and a small journal to start from.
 pub(crate) const PAGE: &str =
     "Program: gibzurg settles the book of a month from a journal, or reads the day of a meter, and says what it did.
-Command settle FILE: runs the journal in FILE and answers every call in it. A FILE of - is standard input.
+Command settle FILE: runs the journal in FILE and answers every call in it. A FILE of one hyphen is standard input.
 Command audit FILE: runs the journal in FILE with its contracts, without them, and with only what stands at the end, and says whether the three books agree.
-Command meter FILE: reads the day of a meter from FILE, a dump of 1536 bytes, and says what its 24 hours have. A FILE of - is standard input here too.
+Command meter FILE: reads the day of a meter from FILE, a dump of 1536 bytes, and says what its 24 hours have. One hyphen is standard input here too.
 Command help: prints this page, as no command at all does.
-Journal: text, one call to a line. A line that is blank or begins with # is passed over.
+Journal: text, one call to a line. A line that is blank or begins with a number sign is passed over.
 Example: the lines from here on are a small journal.
 open agents 2 days 1 weekday monday
 agent 1 role generator capacity 4000 power 0

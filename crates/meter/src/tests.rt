@@ -221,7 +221,7 @@ fn expect_lengths(rt: &impl Abort, dump: &[u8], room: usize, fault: Option<Meter
     assert!(rt; output[hours..].iter().all(|byte| *byte == BLANK));
 }
 
-// Each fault, its number, its place and its words.
+// Each fault, its number and its place.
 #[test]
 fn faults_are_numbered(rt: HostRuntime) {
     let cases = [

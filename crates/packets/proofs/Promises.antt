@@ -1,5 +1,6 @@
 -- What reading and writing by one format promise, and rows as parts of a format. Assumes nothing.
 use Rattle.std.proofs.Common.{◌≡◌, ℕ, zero, suc, ◌+◌, ◌≤◌, Bool, true, false, cond, leb, List, [], ◌∷◌, ◌++◌, length, take, drop, get_or, Result, Ok, Err, Fits, w8, refl, sym, ap, ◌∙◌, arith}
+use Rattle.std.proofs.Math.Facts.{Fits-of_lt}
 use Rattle.std.proofs.lemmas.List.{take_at, length-append}
 use Rattle.std.proofs.lemmas.Bool.Decides.{nat_tests}
 use Rattle.packets.specs.declared.faults.ByteFault.{ByteFault}
@@ -26,6 +27,7 @@ spells f figures bytes typed h =
     record {
       size = λ output room. written_ok f figures output (length bytes) k.1 room;
       output = λ output room. output_ok f figures output (length bytes) k.1 room ∙ ap (λ xs. overwritten xs output) (sym k.0);
+      alone = λ other bytes-too same. (only_spelling f other 0 figures (λ k. Fits-of_lt (bytes-too k)) (omega arith) same).0 ∙ sym k.0;
     }
 
 -- where figures that may be written end

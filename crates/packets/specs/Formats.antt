@@ -1,5 +1,5 @@
 -- Formats as data, and what reading and writing by a format come to. Places are counted from 0. Assumes nothing.
-use Rattle.std.specs.Prelude.{ℕ, ◌≡◌, ◌≤◌, ◌+◌, Bool, cond, ◌&&◌, List, [], ◌∷◌, ◌++◌, length, drop, Option, Some, None, Result, Ok, Err, nat_le, slice_index_or}
+use Rattle.std.specs.Prelude.{ℕ, ◌≡◌, ◌≤◌, ◌<◌, ◌+◌, Bool, cond, ◌&&◌, List, [], ◌∷◌, ◌++◌, length, drop, Option, Some, None, Result, Ok, Err, nat_le, slice_index, slice_index_or}
 use Rattle.packets.specs.declared.faults.ByteFault.{ByteFault}
 use Rattle.packets.specs.declared.faults.ByteFault.TheVariants.{WrongSize, Malformed}
 use Rattle.packets.specs.declared.numbers.Number.{Number}
@@ -80,7 +80,7 @@ abbrev pub row_answer : List ℕ → Result ℕ ByteFault → Result Row ByteFau
 row_answer figures (Ok end) = Ok (record { figures = figures; end = end })
 row_answer figures (Err fault) = Err fault
 
--- no limits
+-- what stands past the last limits of a row: only 0 is within them
 abbrev pub no_limits : Limits
 no_limits = record { least = 0; most = 0 }
 
@@ -101,7 +101,12 @@ left_with (Err fault) bytes output = output
 abbrev pub output_with : Format → List ℕ → List ℕ → List ℕ
 output_with f figures output = left_with (written f figures output) (spelled_all figures) output
 
--- whatever output has room for the bytes, writing the figures there gives them
+-- numbers that are bytes
+abbrev pub AreBytes : List ℕ → Type 0
+AreBytes bytes = (k : ℕ) → slice_index bytes k < 256
+
+-- whatever output has room for the bytes, writing the figures there gives them; and no other bytes hold these figures
 pub record Spells (f : Format) (figures bytes : List ℕ) : Type 0 where
   pub size : (output : List ℕ) → length bytes ≤ length output → written f figures output ≡ Ok (length bytes)
   pub output : (output : List ℕ) → length bytes ≤ length output → output_with f figures output ≡ overwritten bytes output
+  pub alone : (other : List ℕ) → AreBytes other → whole f other 0 ≡ Ok figures → other ≡ bytes

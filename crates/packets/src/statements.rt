@@ -41,7 +41,7 @@ pub struct StatementFigures {
     pub peak_hour: u64,
 }
 
-/// A signed number as a number: twice it, or twice what it lacks to -1, and 1 more.
+/// A signed number as a number: twice it, or below zero minus twice it, less 1.
 fn fold_sign(value: i64) -> u64
     ensures { result ≡ unsigned_of value }
 {

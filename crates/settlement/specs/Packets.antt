@@ -27,7 +27,7 @@ posting_of figures = record {
   lines = map line_in (lines_of (slice_index figures 2) (drop 3 figures));
 }
 
--- what bytes say: the posting of the one packet that they are, or where they are none
+-- what bytes say: the posting of the packet that they are, or the fault of bytes that are no packet
 abbrev pub posting_in : List ℕ → Result PostedHour ByteFault
 posting_in bytes = and_then (whole hour_format bytes 0) (λ figures. Ok (posting_of figures))
 
@@ -36,11 +36,11 @@ abbrev pub of_bytes : Result PostedHour ByteFault → Result PostedHour LineFaul
 of_bytes (Ok p) = Ok p
 of_bytes (Err fault) = Err (Packet fault)
 
--- a posting as it is kept: of the places for lines, so many are used
+-- the hour that a posting from a packet says: of its 64 places for lines, so many are used
 abbrev pub hour_in : PacketPosting → PostedHour
 hour_in p = record { hour = p.hour; price = p.price; lines = take p.count p.lines }
 
--- and one that was read
+-- what reading a packet answers, by the hour that it says
 abbrev pub hour_read : Result PacketPosting LineFault → Result PostedHour LineFault
 hour_read (Ok p) = Ok (hour_in p)
 hour_read (Err fault) = Err fault

@@ -34,7 +34,7 @@ pub(crate) trait Carried {
 }
 
 /// Writes the weight of each agent to its place.
-// Kept as a clause, here and below: the weights lie in fixed memory lent for the call, as long as there are agents.
+// Kept as a clause, here and below: the weights lie in memory lent for the call, as long as there are agents.
 fn fill_weights<C: Carried>(carried: &C, weights: &mut [u32])
     requires { length weights.old ≡ C.agents carried.now }
     ensures { weights.new ≡ weights_in (C.agents carried.now) (C.weight carried.now) }

@@ -38,7 +38,7 @@ pub enum BookFault {
     /// A figure of the opening, or a statement's agent, lies outside the book.
     #[error("a figure of the opening or the statement's agent is outside the book's limits")]
     OutsideBook,
-    /// A fault of the posting's own figures.
+    /// A fault of the posting's own figures, or of the bytes that it came as.
     #[error(transparent)]
     Posting(LineFault),
     /// There is obligated excess, and no withdrawn energy carries it.

@@ -40,7 +40,7 @@ fn put_points(entry: &mut Entry, points: i64)
 }
 
 /// Puts points on the contract line of the agent with this number.
-// Kept as a clause of the length, here and below: the entries lie in fixed memory lent for the call.
+// Kept as a clause of the length, here and below: the entries lie in memory lent for the call.
 fn put_leg(number: u32, points: i64, fresh: &mut [Entry])
     requires some { 1 ≤ number }
     requires known { number ≤ length fresh.old }

@@ -9,7 +9,7 @@ use crate::lines::Line;
 const MOST_LINES: usize = 64;
 
 /// A posting that came as a packet: an hour, its price and its lines, raw figures, any at all.
-#[derive(Clone, Copy)]
+#[derive(Drop)]
 pub struct PacketPosting {
     pub hour: u32,
     pub price: u32,

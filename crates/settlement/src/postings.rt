@@ -16,7 +16,7 @@ use valuation::{MOST_ENERGY, MOST_PRICE};
 pub struct MeasuredPosting<'a> {
     pub stamp: HourStamp,
     pub price: u32,
-    // Kept beside one another, here and in `PostedLines`: the host fills in both, each in fixed memory that it lends.
+    // Kept beside one another, here and in `PostedLines`: the host fills in both, each in memory that it lends.
     pub lines: &'a [Line],
     pub agents: &'a [Agent],
     pub ghost measured: { Measured price lines.now } by { Prim.hlevel props },

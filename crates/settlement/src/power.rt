@@ -28,7 +28,7 @@ fn power_credit(agent: &Agent) -> u64
 /// The agents of a book with their accounts of a month, which hold no more withdrawn energy than the month's hours can.
 #[derive(Clone, Copy)]
 struct Month<'a> {
-    // Kept beside one another: both lie in fixed memory that the host lends.
+    // Kept beside one another: both lie in memory that the host lends.
     agents: &'a [Agent],
     accounts: &'a [Entry],
     ghost few: { length agents.now ≤ 64 },

@@ -24,9 +24,9 @@ pub record Posting : Type 0 where
   pub price : ℕ
   pub lines : List Line
 
--- what a host asks of a book: post an hour, or correct it, from lines or from a packet that says them; post bytes that are no packet, for this
--- fault; withdraw an hour; enter a contract under a number, or cancel it; close the month; give an agent's statement, provisional while the
--- month is open and final once it is closed
+-- what a host asks of a book: post an hour, or correct it, from lines or from a packet that says them; post bytes that are no packet, with what is
+-- wrong in them; withdraw an hour; enter a contract under a number, or cancel it; close the month; give an agent's statement, provisional while
+-- the month is open and final once it is closed
 pub data Request : Type 0 where
   posting : (hour : ℕ) → Posting → Request
   unread : ByteFault → Request
