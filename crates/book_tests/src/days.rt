@@ -46,12 +46,18 @@ impl Memory {
 
     /// All of it.
     fn lend(&mut self) -> Loan<'_> {
+        let Memory {
+            accounts,
+            contracts,
+            marks,
+            entries,
+        } = self;
         Loan {
-            contracts: &mut self.contracts,
+            contracts: &mut contracts[..],
             ledger: Ledger {
-                accounts: &mut self.accounts,
-                marks: &mut self.marks,
-                entries: &mut self.entries,
+                accounts: &mut accounts[..],
+                marks: &mut marks[..],
+                entries: &mut entries[..],
             },
         }
     }
