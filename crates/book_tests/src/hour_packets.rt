@@ -162,18 +162,10 @@ fn bytes_that_are_no_packet(rt: HostRuntime) {
 }
 
 /// Posts an hour that is refused, from lines and by packet. Both leave all memory as it was.
-fn refuse(
-    rt: &impl Abort,
-    memory: &mut Memory,
-    month: &OpenMonth,
-    hour: Hour<'_>,
-    number: u32,
-    place: u32,
-) {
+fn refuse(rt: &impl Abort, memory: &mut Memory, month: &OpenMonth, hour: Hour<'_>, told: Told) {
     let before = *memory;
     for way in [Way::Lines, Way::Packet] {
-        let told = hour.post(way, memory, month);
-        assert_eq!(rt; told, refused(number, place), "{way:?}");
+        assert_eq!(rt; hour.post(way, memory, month), told, "{way:?}");
         assert!(rt; *memory == before);
     }
 }
@@ -191,48 +183,27 @@ fn hours_that_are_refused(rt: HostRuntime) -> Result<(), Refusal> {
         ..IDLE
     });
     let uncarried = [OBLIGATED, IDLE, IDLE, IDLE, IDLE];
-    // the hour, and the number and the place of its fault
-    let cases: [(Hour<'_>, u32, u32); 11] = [
-        (Hour { hour: 24, ..TRADE }, 4, 24),
-        (
-            Hour {
-                hour: u32::MAX,
-                price: 2_000_001,
-                ..TRADE
-            },
-            4,
-            u32::MAX,
-        ),
-        (
-            Hour {
-                price: 2_000_001,
-                ..with(&class)
-            },
-            5,
-            0,
-        ),
-        (
-            Hour {
-                price: u32::MAX,
-                ..TRADE
-            },
-            5,
-            0,
-        ),
-        (with(&[IDLE; 4]), 5, 0),
-        (with(&[IDLE; 6]), 5, 0),
-        (with(&[IDLE; 64]), 5, 0),
-        (with(&factor), 5, 2),
-        (with(&class), 6, 2),
-        (with(&together), 7, 0),
-        (with(&uncarried), 8, 0),
+    // the hour, the price and the lines, and the number and the place of the fault
+    let cases: [(u32, u32, &[Line], u32, u32); 11] = [
+        (24, 60_000, &LINES, 4, 24),
+        (u32::MAX, 2_000_001, &LINES, 4, u32::MAX),
+        (6, 2_000_001, &class, 5, 0),
+        (6, u32::MAX, &LINES, 5, 0),
+        (6, 60_000, &[IDLE; 4], 5, 0),
+        (6, 60_000, &[IDLE; 6], 5, 0),
+        (6, 60_000, &[IDLE; 64], 5, 0),
+        (6, 60_000, &factor, 5, 2),
+        (6, 60_000, &class, 6, 2),
+        (6, 60_000, &together, 7, 0),
+        (6, 60_000, &uncarried, 8, 0),
     ];
     let mut memory = Memory::new();
     let month = open_on(&mut memory, RIGHT)?;
     memory.contracts[0] = Some(BLOCK);
     assert_eq!(rt; TRADE.post(Way::Lines, &mut memory, &month), ACCEPTED);
-    for (hour, number, place) in cases {
-        refuse(&rt, &mut memory, &month, hour, number, place);
+    for (hour, price, lines, number, place) in cases {
+        let hour = Hour { hour, price, lines };
+        refuse(&rt, &mut memory, &month, hour, refused(number, place));
     }
     let _ = month.retire();
     Ok(())
@@ -255,43 +226,20 @@ fn a_packet_has_a_line_for_each_agent_of_the_book(rt: HostRuntime) {
     }
 }
 
-/// An hour and another posting of it, one after the other. Both are accepted.
-fn post_twice(
-    memory: &mut Memory,
-    month: &OpenMonth,
-    ways: [Way; 2],
-    hours: [Hour<'_>; 2],
-) -> Told {
-    hours[0].post(ways[0], memory, month)?;
-    hours[1].post(ways[1], memory, month)
+/// Posts hours one after another.
+fn post_all(memory: &mut Memory, month: &OpenMonth, hours: &[(Hour<'_>, Way)]) -> Told {
+    for (hour, way) in hours {
+        hour.post(*way, memory, month)?;
+    }
+    Ok(())
 }
 
-/// All memory after an hour was posted, and corrected, where this contract stands.
-fn corrected(contract: Option<Contract>, ways: [Way; 2]) -> Result<Memory, Refusal> {
-    let lines = second(Line {
-        withdrawn: 400,
-        factor: 102_000,
-        ..IDLE
-    });
-    let dearer = Hour {
-        price: 80_000,
-        ..with(&lines)
-    };
+/// All memory after these hours were posted, where this contract stands.
+fn posted(contract: Option<Contract>, hours: &[(Hour<'_>, Way)]) -> Result<Memory, Refusal> {
     let mut memory = Memory::new();
     let month = open_on(&mut memory, RIGHT)?;
     memory.contracts[63] = contract;
-    let said = post_twice(&mut memory, &month, ways, [TRADE, dearer]);
-    let _ = month.retire();
-    said?;
-    Ok(memory)
-}
-
-/// All memory after an hour was posted, where this contract stands.
-fn posted(contract: Option<Contract>, way: Way) -> Result<Memory, Refusal> {
-    let mut memory = Memory::new();
-    let month = open_on(&mut memory, RIGHT)?;
-    memory.contracts[63] = contract;
-    let said = TRADE.post(way, &mut memory, &month);
+    let said = post_all(&mut memory, &month, hours);
     let _ = month.retire();
     said?;
     Ok(memory)
@@ -302,8 +250,48 @@ const STANDING: [Option<Contract>; 3] = [None, Some(BLOCK), Some(SHARE)];
 
 #[test]
 fn a_packet_leaves_what_its_lines_would(rt: HostRuntime) -> Result<(), Refusal> {
+    let idle = Hour {
+        hour: 23,
+        ..with(&[IDLE; 5])
+    };
     for contract in STANDING {
-        assert!(rt; posted(contract, Way::Packet)? == posted(contract, Way::Lines)?);
+        let lines = posted(contract, &[(TRADE, Way::Lines), (idle, Way::Lines)])?;
+        let packets = posted(contract, &[(TRADE, Way::Packet), (idle, Way::Packet)])?;
+        assert!(rt; packets == lines);
+    }
+    Ok(())
+}
+
+/// The trade with other figures.
+const DEARER: Hour<'static> = Hour {
+    price: 80_000,
+    lines: &[
+        Line {
+            injected: 500,
+            ..IDLE
+        },
+        Line {
+            withdrawn: 400,
+            ..IDLE
+        },
+        IDLE,
+        IDLE,
+        IDLE,
+    ],
+    ..TRADE
+};
+
+/// Posts the trade and corrects it where this contract stands, one of the two by packet at least.
+fn correct(rt: &impl Abort, contract: Option<Contract>) -> Result<(), Refusal> {
+    let lines = posted(contract, &[(TRADE, Way::Lines), (DEARER, Way::Lines)])?;
+    assert!(rt; lines != posted(contract, &[(TRADE, Way::Lines)])?);
+    for (first, then) in [
+        (Way::Packet, Way::Packet),
+        (Way::Packet, Way::Lines),
+        (Way::Lines, Way::Packet),
+    ] {
+        let memory = posted(contract, &[(TRADE, first), (DEARER, then)])?;
+        assert!(rt; memory == lines, "{first:?}, then {then:?}");
     }
     Ok(())
 }
@@ -311,11 +299,7 @@ fn a_packet_leaves_what_its_lines_would(rt: HostRuntime) -> Result<(), Refusal> 
 #[test]
 fn a_correction_leaves_the_same_each_way(rt: HostRuntime) -> Result<(), Refusal> {
     for contract in STANDING {
-        let lines = corrected(contract, [Way::Lines, Way::Lines])?;
-        assert!(rt; lines != posted(contract, Way::Lines)?);
-        assert!(rt; corrected(contract, [Way::Packet, Way::Packet])? == lines);
-        assert!(rt; corrected(contract, [Way::Packet, Way::Lines])? == lines);
-        assert!(rt; corrected(contract, [Way::Lines, Way::Packet])? == lines);
+        correct(&rt, contract)?;
     }
     Ok(())
 }
