@@ -2,6 +2,7 @@
 use crate::desk::Said::{Done, Refused, Skipped, Stated};
 use crate::desk::{Said, Step, all_said};
 use crate::pool::{BLOCK, IDLE, OBLIGATED, QUIET, RESOLD, SHARE, TRADE, audited};
+use audit::Report;
 use book::Line;
 use forms::Contract;
 use std::alloc::{AllocError, Global};
@@ -9,7 +10,7 @@ use std::process::Abort;
 use std::test::Fail;
 
 /// A step, and what its call is answered in the first book and in the second.
-type Case<'a> = (Step<'a>, Said, Said);
+pub(crate) type Case<'a> = (Step<'a>, Said, Said);
 
 /// One answer, or the same for each hour of a day.
 fn push_said(told: &mut Vec<Said>, step: Step<'_>, said: Said) -> Result<(), AllocError> {
@@ -35,8 +36,12 @@ fn wanted(heap: Global, cases: &[Case<'_>]) -> Result<(Vec<Said>, Vec<Said>), Al
     Ok((first, second))
 }
 
-/// Makes the calls of a table of cases, and compares each answer in both books.
-fn try_cases(rt: &impl Abort, heap: Global, cases: &[Case<'_>]) -> Result<(), Fail> {
+/// Makes the calls of a table of cases, compares each answer in both books, and gives the report.
+pub(crate) fn try_report(
+    rt: &impl Abort,
+    heap: Global,
+    cases: &[Case<'_>],
+) -> Result<Report, Fail> {
     let steps: Vec<Step<'_>> = cases.iter().map(|case| case.0).collect(heap)?;
     let found = audited(heap, &steps)?;
     let (first, second) = wanted(heap, cases)?;
@@ -50,6 +55,12 @@ fn try_cases(rt: &impl Abort, heap: Global, cases: &[Case<'_>]) -> Result<(), Fa
     );
     let comparison = found.report.comparison;
     assert_eq!(rt; comparison.alike, comparison.heard);
+    Ok(found.report)
+}
+
+/// Makes the calls of a table of cases, and compares each answer in both books.
+fn try_cases(rt: &impl Abort, heap: Global, cases: &[Case<'_>]) -> Result<(), Fail> {
+    try_report(rt, heap, cases)?;
     Ok(())
 }
 
@@ -82,8 +93,9 @@ fn postings_that_are_refused(rt: HostRuntime) -> Result<(), Fail> {
     ];
     for (hour, price, lines, number, place) in cases {
         let refused = Refused(number, place);
-        let case = (Step::Post(hour, price, lines), refused, refused);
-        try_cases(&rt, rt.alloc(), &[case])?;
+        let lined = (Step::Post(hour, price, lines), refused, refused);
+        let packed = (Step::Packet(hour, price, lines), refused, refused);
+        try_cases(&rt, rt.alloc(), &[lined, packed])?;
     }
     Ok(())
 }

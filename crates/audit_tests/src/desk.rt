@@ -2,15 +2,20 @@
 use audit::{Answer, Call, Findings, Posting, Report, Told, audit};
 use book::{Account, Agent, BookFault, Entry, Ledger, Line, MonthFigures, Statement};
 use forms::{Contract, Delivery, Product};
+use packets::{PacketLine, write_hour};
 use std::alloc::{AllocError, Global};
 use tally::{Pair, Tally};
 
 /// Calls, as a table of cases has them.
-// Kept beside `Call`: cases are copied, and a `Call`'s `Vec` of lines can't be.
+// Kept beside `Call`: cases are copied, and a `Call`'s `Vec` of lines or of bytes can't be.
 #[derive(Clone, Copy)]
 pub(crate) enum Step<'a> {
     /// Post an hour.
     Post(u32, u32, &'a [Line]),
+    /// Post an hour by packet.
+    Packet(u32, u32, &'a [Line]),
+    /// Post an hour by packet, from these bytes.
+    Bytes(&'a [u8]),
     /// Post each hour of the day, all alike.
     PostDay(u32, &'a [Line]),
     Withdraw(u32),
@@ -29,11 +34,48 @@ fn posting(heap: Global, hour: u32, price: u32, lines: &[Line]) -> Result<Call, 
     }))
 }
 
+/// A line as a packet carries it.
+// Kept beside the one of `book_tests`: no crate under both is for tests alone.
+fn packet_line(line: &Line) -> PacketLine {
+    let Line {
+        class,
+        cause,
+        injected,
+        withdrawn,
+        gross,
+        factor,
+        cost,
+    } = *line;
+    PacketLine {
+        class,
+        cause,
+        injected,
+        withdrawn,
+        gross,
+        factor,
+        cost,
+    }
+}
+
+/// How many bytes a packet has at most: hour, price and the number of lines, and 64 lines of seven numbers.
+const LONGEST: usize = 2_251;
+
+/// A posting by packet, as a call.
+fn packet(heap: Global, hour: u32, price: u32, lines: &[Line]) -> Result<Call, AllocError> {
+    let lines: Vec<PacketLine> = lines.iter().map(packet_line).collect(heap)?;
+    let mut bytes = vec![in heap; 0; LONGEST]?;
+    let size = write_hour(hour, price, &lines, &mut bytes).unwrap_or(0);
+    bytes.truncate(size);
+    Ok(Call::Packet(bytes))
+}
+
 impl Step<'_> {
     /// Its call, of those that are one.
     fn call(&self, heap: Global) -> Result<Call, AllocError> {
         match self {
             Step::Post(hour, price, lines) => posting(heap, *hour, *price, lines),
+            Step::Packet(hour, price, lines) => packet(heap, *hour, *price, lines),
+            Step::Bytes(bytes) => Ok(Call::Packet(Vec::from_slice(heap, bytes)?)),
             Step::PostDay(price, lines) => posting(heap, 0, *price, lines),
             Step::Withdraw(hour) => Ok(Call::Withdraw(*hour)),
             Step::Enter(number, contract) => Ok(Call::Enter {

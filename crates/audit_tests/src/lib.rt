@@ -13,6 +13,8 @@ mod months;
 #[cfg(test)]
 mod orders;
 #[cfg(test)]
+mod packet_steps;
+#[cfg(test)]
 mod pool;
 mod profiles;
 #[cfg(test)]

@@ -12,7 +12,7 @@ fn statements(found: &Audited) -> (&[Statement], &[Statement]) {
 }
 
 /// Audits two lists, and sees whether all their statements are the same.
-fn compare(
+pub(crate) fn compare(
     rt: &impl Abort,
     heap: Global,
     one: &[Step<'_>],

@@ -9,7 +9,7 @@ use std::test::Fail;
 
 /// The report where the residue is so much, both books heard so many calls, and so many of the four agents are strangers to all contracts: all
 /// balances together are minus the residue, and all that is compared is the same.
-fn report(residue: i64, heard: usize, strangers: usize) -> Report {
+pub(crate) fn report(residue: i64, heard: usize, strangers: usize) -> Report {
     let balances = 0_i64.wrapping_sub(residue);
     Report {
         balances,

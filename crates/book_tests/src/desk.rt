@@ -1,7 +1,7 @@
 //! Memory for a book of five agents and one day, with a place more of each kind, and what is done on it.
 use book::{
     Account, Agent, BookFault, ClosedMonth, Entry, Ledger, Line, MonthFigures, OpenMonth, Pool,
-    Statement, close, final_statement, open, post, provisional, withdraw,
+    Statement, close, final_statement, open, post, post_packet, provisional, withdraw,
 };
 use forms::{Contract, Delivery, Product};
 use tally::{Energy, Money, Pair, Tally};
@@ -239,6 +239,24 @@ pub(crate) fn post_on(
     };
     let mut ledger = ledger_of(accounts, marks, entries, RIGHT);
     post(month, &Product, hour, price, lines, &pool, &mut ledger)?;
+    Ok(())
+}
+
+/// Posts an hour by packet in a book that is open.
+pub(crate) fn post_packet_on(memory: &mut Memory, month: &OpenMonth, bytes: &[u8]) -> Told {
+    let Memory {
+        agents,
+        accounts,
+        contracts,
+        marks,
+        entries,
+    } = memory;
+    let pool = Pool {
+        agents: &agents[0..RIGHT.agents.min(6)],
+        contracts: &contracts[0..RIGHT.contracts.min(65)],
+    };
+    let mut ledger = ledger_of(accounts, marks, entries, RIGHT);
+    post_packet(month, &Product, bytes, &pool, &mut ledger)?;
     Ok(())
 }
 

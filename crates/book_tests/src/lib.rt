@@ -1,5 +1,5 @@
-//! Trials of the book on memory of a wrong size or with damaged figures, which no journal can reach, and of contracts, closings and final
-//! statements.
+//! Trials of the book on memory of a wrong size or with damaged figures, which no journal can reach, and of packets, contracts, closings and
+//! final statements.
 #![tactic(auto)]
 
 #[cfg(test)]
@@ -10,6 +10,8 @@ mod contracts;
 mod days;
 #[cfg(test)]
 mod desk;
+#[cfg(test)]
+mod hour_packets;
 #[cfg(test)]
 mod legs;
 #[cfg(test)]

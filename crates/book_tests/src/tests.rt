@@ -1,13 +1,15 @@
 use crate::days::day_of;
 use crate::desk::{ACCEPTED, BLOCK, RIGHT, Refusal, SHARE, Sizes, Told};
-use crate::trials::{Damage, Trial, opened, opened_over, tried};
+use crate::trials::{Damage, LAST_HOUR, Trial, opened, opened_over, tried};
 use book::{Agent, BookFault, LineFault};
 use forms::Contract;
+use packets::ByteFault;
 use std::test::Fail;
 use tally::Energy;
 
-const CALLS: [Trial; 8] = [
+const CALLS: [Trial<'static>; 9] = [
     Trial::Post,
+    Trial::Packet(&LAST_HOUR),
     Trial::Withdraw,
     Trial::Enter,
     Trial::Cancel,
@@ -68,7 +70,7 @@ const WRONG_SIZES: [Sizes; 10] = [
 fn right_memory_is_accepted(rt: HostRuntime) {
     assert_eq!(rt; opened(RIGHT), ACCEPTED);
     for trial in CALLS {
-        assert_eq!(rt; tried(RIGHT, None, trial), ACCEPTED);
+        assert_eq!(rt; tried(&rt, RIGHT, None, trial), ACCEPTED);
     }
 }
 
@@ -77,7 +79,7 @@ fn memory_of_another_size_is_refused(rt: HostRuntime) {
     for size in WRONG_SIZES {
         assert_eq!(rt; opened(size), WRONG_SIZE);
         for trial in CALLS {
-            assert_eq!(rt; tried(size, None, trial), WRONG_SIZE);
+            assert_eq!(rt; tried(&rt, size, None, trial), WRONG_SIZE);
         }
     }
 }
@@ -139,7 +141,7 @@ const OUTSIDE: [Damage; 11] = [
 fn stored_figures_outside_their_limits_are_refused(rt: HostRuntime) {
     for damage in OUTSIDE {
         for trial in CALLS {
-            assert_eq!(rt; tried(RIGHT, Some(damage), trial), STORED);
+            assert_eq!(rt; tried(&rt, RIGHT, Some(damage), trial), STORED);
         }
     }
 }
@@ -170,7 +172,7 @@ fn stored_figures_at_their_limits_are_accepted(rt: HostRuntime) {
     ];
     for damage in damages {
         for trial in CALLS {
-            assert_eq!(rt; tried(RIGHT, Some(damage), trial), ACCEPTED);
+            assert_eq!(rt; tried(&rt, RIGHT, Some(damage), trial), ACCEPTED);
         }
     }
 }
@@ -205,7 +207,7 @@ fn stored_contracts_that_may_not_stand_are_refused(rt: HostRuntime) {
     for contract in WRONG_CONTRACTS {
         for trial in CALLS {
             assert_eq!(rt;
-                tried(RIGHT, Some(Damage::LastContract(contract)), trial),
+                tried(&rt, RIGHT, Some(Damage::LastContract(contract)), trial),
                 STORED
             );
         }
@@ -244,7 +246,7 @@ fn stored_contracts_that_may_stand_are_accepted(rt: HostRuntime) {
     for contract in contracts {
         for trial in CALLS {
             assert_eq!(rt;
-                tried(RIGHT, Some(Damage::LastContract(contract)), trial),
+                tried(&rt, RIGHT, Some(Damage::LastContract(contract)), trial),
                 ACCEPTED
             );
         }
@@ -256,6 +258,7 @@ fn a_wrong_size_is_answered_before_a_stored_figure(rt: HostRuntime) {
     for trial in CALLS {
         assert_eq!(rt;
             tried(
+                &rt,
                 Sizes { marks: 23, ..RIGHT },
                 Some(Damage::LastMark(2)),
                 trial
@@ -298,6 +301,10 @@ fn faults_are_told_in_words(rt: HostRuntime) -> Result<(), Fail> {
         (
             BookFault::OutsideBook,
             "a figure of the opening or the statement's agent is outside the book's limits",
+        ),
+        (
+            BookFault::Posting(LineFault::Packet(ByteFault::Malformed(49))),
+            "no number that the format allows starts at byte 49, or bytes are left over from there on",
         ),
         (
             BookFault::Posting(LineFault::HourOutside(24)),

@@ -5,10 +5,11 @@ use crate::desk::{
 };
 use crate::slices::post_in;
 use book::{
-    Agent, BookFault, Ledger, Line, OpenMonth, Pool, cancel, day_total, enter, provisional,
-    withdraw,
+    Agent, BookFault, Ledger, Line, OpenMonth, Pool, cancel, day_total, enter, post_packet,
+    provisional, withdraw,
 };
 use forms::{Contract, Product};
+use std::process::Abort;
 
 /// A stored figure, changed between the opening and the call.
 // Kept as an enum: the cases are a table that each call goes through, and a list of closures would have to hold boxed ones.
@@ -31,8 +32,9 @@ pub(crate) enum Damage {
 /// The call that is tried.
 // Kept as an enum: a list of calls would have to hold boxed closures, which is no plainer.
 #[derive(Clone, Copy, PartialEq, Eq)]
-pub(crate) enum Trial {
+pub(crate) enum Trial<'a> {
     Post,
+    Packet(&'a [u8]),
     Withdraw,
     Enter,
     Cancel,
@@ -49,9 +51,19 @@ const LINE: Line = Line {
     ..IDLE
 };
 
+/// Hour 23 at 50,000, in which each of five agents has that line: the heading, and the lines.
+pub(crate) const LAST_HOUR: [u8; 50] = [
+    0x17, 0xD0, 0x86, 0x03, 0x05, //
+    0x01, 0x00, 0x0A, 0x0A, 0x00, 0xA0, 0x8D, 0x06, 0x00, //
+    0x01, 0x00, 0x0A, 0x0A, 0x00, 0xA0, 0x8D, 0x06, 0x00, //
+    0x01, 0x00, 0x0A, 0x0A, 0x00, 0xA0, 0x8D, 0x06, 0x00, //
+    0x01, 0x00, 0x0A, 0x0A, 0x00, 0xA0, 0x8D, 0x06, 0x00, //
+    0x01, 0x00, 0x0A, 0x0A, 0x00, 0xA0, 0x8D, 0x06, 0x00,
+];
+
 impl Memory {
     /// What the call needs: a contract to cancel, an hour to withdraw, and a month to close.
-    fn prepare(&mut self, trial: Trial) {
+    fn prepare(&mut self, trial: Trial<'_>) {
         self.contracts[0] = Some(BLOCK);
         self.marks[0] = 1;
         if trial == Trial::Close || trial == Trial::Final {
@@ -90,7 +102,7 @@ impl Memory {
 /// A call that enters a contract, or cancels one.
 fn call_on_contracts(
     month: &OpenMonth,
-    trial: Trial,
+    trial: Trial<'_>,
     memory: &mut Memory,
     sizes: Sizes,
 ) -> Result<(), BookFault> {
@@ -113,11 +125,12 @@ fn call_on_contracts(
 /// A call that writes hours, or looks into an open month.
 fn call_on_hours(
     month: &OpenMonth,
-    trial: Trial,
+    trial: Trial<'_>,
     pool: &Pool<'_>,
     ledger: &mut Ledger<'_>,
 ) -> Result<(), BookFault> {
     match trial {
+        Trial::Packet(bytes) => post_packet(month, &Product, bytes, pool, ledger),
         Trial::Withdraw => withdraw(month, &Product, 0, pool, ledger),
         Trial::Statement => {
             provisional(month, &Product, 5, &ledger.view(pool))?;
@@ -145,7 +158,7 @@ fn call_on_hours(
 /// A call on an open month.
 fn call(
     month: &OpenMonth,
-    trial: Trial,
+    trial: Trial<'_>,
     memory: &mut Memory,
     sizes: Sizes,
 ) -> Result<(), BookFault> {
@@ -189,8 +202,14 @@ fn final_tried(
     }
 }
 
-/// Opens a book, damages its memory, lends so much of it to a call, and tells how the call was answered.
-pub(crate) fn tried(sizes: Sizes, damage: Option<Damage>, trial: Trial) -> Told {
+/// Opens a book, damages its memory, lends so much of it to a call, and tells how the call was answered. A call on an open month that is refused
+/// leaves all memory as it was.
+pub(crate) fn tried(
+    rt: &impl Abort,
+    sizes: Sizes,
+    damage: Option<Damage>,
+    trial: Trial<'_>,
+) -> Told {
     let mut memory = Memory::new();
     let month = open_on(&mut memory, RIGHT)?;
     memory.prepare(trial);
@@ -201,8 +220,10 @@ pub(crate) fn tried(sizes: Sizes, damage: Option<Damage>, trial: Trial) -> Told 
     if trial == Trial::Close {
         return close_and_retire(&mut memory, month, sizes);
     }
+    let before = memory;
     let said = call(&month, trial, &mut memory, sizes);
     let _ = month.retire();
+    assert!(rt; said.is_ok() || memory == before);
     Ok(said?)
 }
 
