@@ -95,10 +95,23 @@ fn with(lines: &[Line]) -> Hour<'_> {
     Hour { lines, ..TRADE }
 }
 
-/// The lines of the trade with another in the second place.
-fn second(line: Line) -> [Line; 5] {
-    [LINES[0], line, IDLE, IDLE, IDLE]
+/// The lines of the trade with another at a place, counted from 0.
+fn at(place: usize, line: Line) -> [Line; 5] {
+    let mut lines = LINES;
+    if let Some(old) = lines.get_mut(place) {
+        *old = line;
+    }
+    lines
 }
+
+/// A line with a node factor above its limit.
+const FAR: Line = Line {
+    factor: 150_001,
+    ..IDLE
+};
+
+/// A line of no class.
+const UNKNOWN: Line = Line { class: 4, ..IDLE };
 
 /// A line of a distributor, which no agent but a generator may have.
 const OBLIGATED: Line = Line {
@@ -173,18 +186,17 @@ fn refuse(rt: &impl Abort, memory: &mut Memory, month: &OpenMonth, hour: Hour<'_
 // Hour 6 is posted, under a block.
 #[test]
 fn hours_that_are_refused(rt: HostRuntime) -> Result<(), Refusal> {
-    let factor = second(Line {
-        factor: 150_001,
-        ..IDLE
-    });
-    let class = second(OBLIGATED);
-    let together = second(Line {
-        injected: 3_999_001,
-        ..IDLE
-    });
+    let class = at(1, OBLIGATED);
+    let together = at(
+        1,
+        Line {
+            injected: 3_999_001,
+            ..IDLE
+        },
+    );
     let uncarried = [OBLIGATED, IDLE, IDLE, IDLE, IDLE];
     // the hour, the price and the lines, and the number and the place of the fault
-    let cases: [(u32, u32, &[Line], u32, u32); 11] = [
+    let cases: [(u32, u32, &[Line], u32, u32); 15] = [
         (24, 60_000, &LINES, 4, 24),
         (u32::MAX, 2_000_001, &LINES, 4, u32::MAX),
         (6, 2_000_001, &class, 5, 0),
@@ -192,8 +204,12 @@ fn hours_that_are_refused(rt: HostRuntime) -> Result<(), Refusal> {
         (6, 60_000, &[IDLE; 4], 5, 0),
         (6, 60_000, &[IDLE; 6], 5, 0),
         (6, 60_000, &[IDLE; 64], 5, 0),
-        (6, 60_000, &factor, 5, 2),
+        (6, 60_000, &at(0, FAR), 5, 1),
+        (6, 60_000, &at(1, FAR), 5, 2),
+        (6, 60_000, &at(4, FAR), 5, 5),
+        (6, 60_000, &at(0, UNKNOWN), 6, 1),
         (6, 60_000, &class, 6, 2),
+        (6, 60_000, &at(4, UNKNOWN), 6, 5),
         (6, 60_000, &together, 7, 0),
         (6, 60_000, &uncarried, 8, 0),
     ];
