@@ -61,6 +61,14 @@ impl<'a> Fields<'a> {
         self.word().and_then(number).ok_or(Expected::Contract)
     }
 
+    /// The hexadecimal digits of bytes, two for each, with no label of their own.
+    pub(crate) fn digits(&mut self) -> Result<&'a str, Expected> {
+        self.word()
+            .filter(|word| word.len() % 2 == 0)
+            .filter(|word| word.bytes().all(|digit| digit.is_ascii_hexdigit()))
+            .ok_or(Expected::Digits)
+    }
+
     /// That no word is left.
     pub(crate) fn end(mut self) -> Result<(), Expected> {
         match self.word() {

@@ -115,7 +115,7 @@ fn call_named<'a>(first: &str, fields: &mut Fields<'a>) -> Result<Request<'a>, E
             hour: fields.figure("hour")?,
             price: fields.figure("price")?,
         },
-        "packet" => Request::Packet(fields.word().ok_or(Expected::Digits)?),
+        "packet" => Request::Packet(fields.digits()?),
         "withdraw" => Request::Withdraw {
             hour: fields.figure("hour")?,
         },

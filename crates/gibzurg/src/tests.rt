@@ -209,6 +209,10 @@ fn refuses_lines(rt: HostRuntime) {
             Expected::Figure("cost"),
         ),
         ("packet", Expected::Digits),
+        ("packet 08E", Expected::Digits),
+        ("packet 08EG", Expected::Digits),
+        ("packet +8", Expected::Digits),
+        ("packet hour 8", Expected::Digits),
         ("packet 08 E0", Expected::End),
         ("withdraw 8", Expected::Figure("hour")),
         ("cancel", Expected::Contract),
@@ -584,9 +588,7 @@ fn ends_runs(rt: HostRuntime) -> Result<(), Fail> {
             2,
             Expected::NoPostingLine,
         ),
-        ("packet 08E", 1, Expected::Digits),
         ("\npacket 08EG", 2, Expected::Digits),
-        ("packet +8", 1, Expected::Digits),
     ];
     for (text, line, wanted) in journals {
         for outcome in [settling::settle(&rt, text), auditing::audit(&rt, text)] {
