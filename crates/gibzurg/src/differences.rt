@@ -122,7 +122,8 @@ impl Audited {
 
     /// Adds what differs in the second book for the agents that are party to no standing contract.
     fn compare_strangers(&self, differences: &mut Vec<Difference>) -> Result<(), AllocError> {
-        let statements = self.found.statements.iter().zip(&self.found.statements_without);
+        let found = &self.found;
+        let statements = found.statements.iter().zip(&found.statements_without);
         for (agent, (one, other)) in (1u32..).zip(statements) {
             if is_stranger(agent.saturating_sub(1), &self.contracts) {
                 compare(differences, Books::FirstAndSecond, agent, one, other)?;
@@ -133,7 +134,8 @@ impl Audited {
 
     /// Adds what differs in the third book.
     fn compare_again(&self, differences: &mut Vec<Difference>) -> Result<(), AllocError> {
-        let statements = self.found.statements.iter().zip(&self.found.statements_again);
+        let found = &self.found;
+        let statements = found.statements.iter().zip(&found.statements_again);
         for (agent, (one, other)) in (1u32..).zip(statements) {
             compare(differences, Books::FirstAndThird, agent, one, other)?;
         }

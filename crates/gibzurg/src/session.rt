@@ -107,9 +107,10 @@ impl<D: Desk> Session<'_, D> {
     /// The bytes of a packet, two digits for each.
     fn packet(&self, line: usize, digits: &str) -> Result<Vec<u8>, Trouble> {
         let mut bytes = vec![in self.heap; 0; digits.len() / 2]?;
-        hex::decode_to_slice(digits, &mut bytes)
-            .map_err(|_| Trouble::Malformed(line, Expected::Digits))?;
-        Ok(bytes)
+        match hex::decode_to_slice(digits, &mut bytes) {
+            Ok(()) => Ok(bytes),
+            Err(_) => Err(Trouble::Malformed(line, Expected::Digits)),
+        }
     }
 
     /// That no opening waits for agents.

@@ -291,7 +291,12 @@ fn says_replies(rt: HostRuntime) -> Result<(), Fail> {
     let byte = BookFault::Posting(LineFault::Packet(ByteFault::Malformed(55)));
     // the journal's line; the call; how it went; what is said
     let replies = [
-        (5, Heading::Post(8), Ok(()), "Line 5, post hour 8: accepted."),
+        (
+            5,
+            Heading::Post(8),
+            Ok(()),
+            "Line 5, post hour 8: accepted.",
+        ),
         (
             1,
             Heading::Open,
