@@ -11,12 +11,13 @@ use Rattle.book.specs.declared.statements.Statement.{Statement}
 use Rattle.book.specs.Calls.{open_fault}
 use Rattle.book.specs.Memory.{Memory}
 use Rattle.standing.specs.Law.{Book}
-use Rattle.standing.specs.Requests.{Request}
+use Rattle.standing.specs.Requests.{Opening, Request, told_without}
 use Rattle.standing.specs.Standing.{after, only_standing}
 use Rattle.standing.specs.Worked.{Reply}
 use Rattle.runs.specs.Reading.{opening_of, Answer, reply_of, worked_in}
 use Rattle.runs.specs.Runs.{answers_to}
 use Rattle.audit.specs.declared.audits.Findings.{Findings}
+use Rattle.audit.specs.declared.audits.Report.{Report}
 use Rattle.audit.specs.Settlings.{begun}
 
 -- all that a host lends: the memory of one book, a place for each answer of the two books that hear calls, and one for each agent's statement in
@@ -64,14 +65,30 @@ audit_fault f calls memory found = first_met (met_if (not (places_fit calls (len
 abbrev pub book_of : List Reply → List Statement → ℤ → Book
 book_of told statements balances = record { told = told; statements = map worked_in statements; balances = balances }
 
+-- what all three are opened with
+abbrev pub opening_in : MonthFigures → List Agent → Opening
+opening_in f agents = opening_of f.days f.weekday agents
+
 -- the contract places as they stand after a list of requests
 abbrev pub places_after : Meaning → MonthFigures → List Agent → List Request → List (Option Contract)
-places_after form f agents requests = (after form (opening_of f.days f.weekday agents) requests).places
+places_after form f agents requests = (after form (opening_in f agents) requests).places
 
 -- what stands at the end, as requests for the third book
 abbrev pub asked_again : Meaning → MonthFigures → List Agent → List Request → List Request
-asked_again form f agents requests = let o = opening_of f.days f.weekday agents in only_standing o (after form o requests)
+asked_again form f agents requests = only_standing (opening_in f agents) (after form (opening_in f agents) requests)
 
 -- what the third book is told
 abbrev pub told_again : Meaning → MonthFigures → List Request → Memory → List Reply
 told_again form f requests m = map reply_of (answers_to true form f (asked_again form f m.agents requests) (begun m))
+
+-- the first book, as an audit finds it: what each call was answered, every agent's statement, and all balances together
+abbrev pub first_book : Findings → Report → Book
+first_book found report = book_of (map reply_of found.answers.now) found.statements.now report.balances
+
+-- the second: what each call was answered that is not about contracts
+abbrev pub second_book : List Request → Findings → Report → Book
+second_book requests found report = book_of (told_without requests (map reply_of found.answers_without.now)) found.statements_without.now report.balances_without
+
+-- the third, which was told what its run gives; `repeated` of the report says whether all of that was done
+abbrev pub third_book : Meaning → MonthFigures → List Request → Memory → Findings → Report → Book
+third_book form f requests m found report = book_of (told_again form f requests m) found.statements_again.now report.balances_again

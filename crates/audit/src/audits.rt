@@ -6,8 +6,8 @@ ghost use Rattle.book.specs.Calls.{open_fault};
 ghost use Rattle.book.specs.Lent.{memory_with, SameLoan};
 ghost use Rattle.standing.specs.Law.{is_done, Settled};
 ghost use Rattle.standing.specs.Requests.{told_without};
-ghost use Rattle.runs.specs.Reading.{opening_of, request_of, reply_of};
-ghost use Rattle.audit.specs.Audits.{lent_with, places_fit, SamePlaces, audit_fault, book_of, places_after, asked_again, told_again};
+ghost use Rattle.runs.specs.Reading.{request_of, reply_of};
+ghost use Rattle.audit.specs.Audits.{lent_with, places_fit, SamePlaces, audit_fault, book_of, opening_in, places_after, asked_again, told_again, first_book, second_book, third_book};
 ghost use Rattle.audit.specs.Compared.{Compared};
 ghost use Rattle.audit.specs.Settlings.{ended};
 
@@ -76,7 +76,7 @@ fn settle_books<F: ContractForm>(
     requires statements_again_long { length statements_again.old ≡ length case.now.agents.now }
     ensures lent { SameLoan ledger.old ledger.new }
     ensures memory { memory_with case.now.agents.now contracts.new ledger.new ≡ (ended true (F.meaning case.now.form.now) case.now.figures (asked_again (F.meaning case.now.form.now) case.now.figures case.now.agents.now (map request_of case.now.calls.now)) (memory_with case.now.agents.now contracts.old ledger.old)).memory }
-    ensures settled { Settled (F.meaning case.now.form.now) (opening_of case.now.figures.days case.now.figures.weekday case.now.agents.now) (map request_of case.now.calls.now) (book_of (map reply_of answers.new) statements.new result.balances) (book_of (told_without (map request_of case.now.calls.now) (map reply_of answers_without.new)) statements_without.new result.balances_without) (book_of (told_again (F.meaning case.now.form.now) case.now.figures (map request_of case.now.calls.now) (memory_with case.now.agents.now contracts.old ledger.old)) statements_again.new result.balances_again) result.residue }
+    ensures settled { Settled (F.meaning case.now.form.now) (opening_in case.now.figures case.now.agents.now) (map request_of case.now.calls.now) (book_of (map reply_of answers.new) statements.new result.balances) (book_of (told_without (map request_of case.now.calls.now) (map reply_of answers_without.new)) statements_without.new result.balances_without) (book_of (told_again (F.meaning case.now.form.now) case.now.figures (map request_of case.now.calls.now) (memory_with case.now.agents.now contracts.old ledger.old)) statements_again.new result.balances_again) result.residue }
     ensures compared { Compared case.now.figures.agents case.now.calls.now answers.new answers_without.new (places_after (F.meaning case.now.form.now) case.now.figures case.now.agents.now (map request_of case.now.calls.now)) statements.new statements_without.new statements_again.new result.comparison }
     ensures repeated { result.repeated ≡ list_all is_done (told_again (F.meaning case.now.form.now) case.now.figures (map request_of case.now.calls.now) (memory_with case.now.agents.now contracts.old ledger.old)) }
 {
@@ -139,7 +139,7 @@ pub fn audit<F: ContractForm>(
     ensures fault { result_err result ≡ audit_fault figures (length calls.now) (memory_with agents.now contracts.old ledger.old) findings.old }
     ensures untouched { OnErr result (lent_with (memory_with agents.now contracts.new ledger.new) findings.new ≡ lent_with (memory_with agents.now contracts.old ledger.old) findings.old) }
     ensures memory { OnOk result (memory_with agents.now contracts.new ledger.new ≡ (ended true (F.meaning form.now) figures (asked_again (F.meaning form.now) figures agents.now (map request_of calls.now)) (memory_with agents.now contracts.old ledger.old)).memory) }
-    ensures settled { IfOk result (λ report. Settled (F.meaning form.now) (opening_of figures.days figures.weekday agents.now) (map request_of calls.now) (book_of (map reply_of findings.new.answers.now) findings.new.statements.now report.balances) (book_of (told_without (map request_of calls.now) (map reply_of findings.new.answers_without.now)) findings.new.statements_without.now report.balances_without) (book_of (told_again (F.meaning form.now) figures (map request_of calls.now) (memory_with agents.now contracts.old ledger.old)) findings.new.statements_again.now report.balances_again) report.residue) }
+    ensures settled { IfOk result (λ report. Settled (F.meaning form.now) (opening_in figures agents.now) (map request_of calls.now) (first_book findings.new report) (second_book (map request_of calls.now) findings.new report) (third_book (F.meaning form.now) figures (map request_of calls.now) (memory_with agents.now contracts.old ledger.old) findings.new report) report.residue) }
     ensures compared { IfOk result (λ report. Compared figures.agents calls.now findings.new.answers.now findings.new.answers_without.now (places_after (F.meaning form.now) figures agents.now (map request_of calls.now)) findings.new.statements.now findings.new.statements_without.now findings.new.statements_again.now report.comparison) }
     ensures repeated { IfOk result (λ report. report.repeated ≡ list_all is_done (told_again (F.meaning form.now) figures (map request_of calls.now) (memory_with agents.now contracts.old ledger.old))) }
 {

@@ -4,9 +4,8 @@ ghost use Rattle.std.specs.Result.{result_err};
 ghost use Rattle.profile.specs.Profile.{profile};
 ghost use Rattle.book.specs.Lent.{memory_with};
 ghost use Rattle.standing.specs.Law.{Settled};
-ghost use Rattle.standing.specs.Requests.{told_without};
-ghost use Rattle.runs.specs.Reading.{opening_of, request_of, reply_of};
-ghost use Rattle.audit.specs.Audits.{audit_fault, book_of, told_again};
+ghost use Rattle.runs.specs.Reading.{request_of};
+ghost use Rattle.audit.specs.Audits.{audit_fault, opening_in, first_book, second_book, third_book};
 
 use audit::{Call, Findings, Report, audit};
 use book::{Agent, BookFault, Ledger, MonthFigures};
@@ -23,7 +22,7 @@ pub fn audit_profiles(
     findings: &mut Findings<'_>,
 ) -> Result<Report, BookFault>
     ensures fault { result_err result ≡ audit_fault figures (length calls.now) (memory_with agents.now contracts.old ledger.old) findings.old }
-    ensures settled { IfOk result (λ report. Settled profile (opening_of figures.days figures.weekday agents.now) (map request_of calls.now) (book_of (map reply_of findings.new.answers.now) findings.new.statements.now report.balances) (book_of (told_without (map request_of calls.now) (map reply_of findings.new.answers_without.now)) findings.new.statements_without.now report.balances_without) (book_of (told_again profile figures (map request_of calls.now) (memory_with agents.now contracts.old ledger.old)) findings.new.statements_again.now report.balances_again) report.residue) }
+    ensures settled { IfOk result (λ report. Settled profile (opening_in figures agents.now) (map request_of calls.now) (first_book findings.new report) (second_book (map request_of calls.now) findings.new report) (third_book profile figures (map request_of calls.now) (memory_with agents.now contracts.old ledger.old) findings.new report) report.residue) }
 {
     audit(
         figures,
