@@ -1,6 +1,6 @@
 -- The band of an hour, by its weekday and by when it begins. Assumes nothing.
-use Rattle.std.specs.Prelude.{ℕ, zero, suc, ◌/◌, ◌%◌, Bool, true, false, cond, ◌&&◌, List, nat_le, slice_index_or}
-use Rattle.calendar.specs.Weekdays.{workday, weekday_at, weekday_in}
+use Rattle.std.specs.Prelude.{ℕ, zero, suc, ◌/◌, ◌%◌, Bool, true, false, if◌then◌else◌, ◌&&◌, List, nat_le, slice_index_or}
+use Rattle.calendar.specs.Weekdays.{workday, weekday_at}
 use Rattle.calendar.specs.declared.bands.Band.{Band}
 use Rattle.calendar.specs.declared.bands.Band.TheVariants.{Peak, Medium, Base}
 use Rattle.calendar.specs.declared.weekdays.Weekday.{Weekday}
@@ -11,27 +11,20 @@ begins from to hour = nat_le from hour && nat_le hour to
 
 -- Hours that begin at 17 to 21 are peak on every day; those at 7 to 16 from Monday to Friday are medium; the others are base.
 abbrev pub band_of : (weekday : Weekday) (hour : ℕ) → Band
-band_of weekday hour = cond (begins 17 21 hour) Peak (cond (begins 7 16 hour && workday weekday) Medium Base)
+band_of weekday hour =
+    if begins 17 21 hour then Peak
+    else (if begins 7 16 hour && workday weekday then Medium else Base)
 
--- The same for an hour that begins so many hours after the first midnight of a month, whose first day is `first`.
-abbrev pub band_in : (first : Weekday) (hour : ℕ) → Band
-band_in first hour = band_of (weekday_in first hour) (hour % 24)
-
--- The same for the hour at a place of the week, from 0 for Monday's midnight to 167.
+-- The band of the hour at a place of the week, from 0 for Monday's midnight to 167.
 abbrev pub band_at : ℕ → Band
 band_at place = band_of (weekday_at (place / 24)) (place % 24)
 
 -- Two bands are the same.
 abbrev pub same : Band → Band → Bool
 same Peak Peak = true
-same Peak Medium = false
-same Peak Base = false
-same Medium Peak = false
 same Medium Medium = true
-same Medium Base = false
-same Base Peak = false
-same Base Medium = false
 same Base Base = true
+same _ _ = false
 
 -- A table has the right band at each of its first n places.
 abbrev pub right_below : List Band → ℕ → Bool

@@ -1,2 +1,4 @@
+pub mod Limits
 pub mod Weekdays
 pub mod Bands
+pub mod Calendar

@@ -1,6 +1,7 @@
 -- The days of the week. Assumes nothing.
-use Rattle.std.specs.Prelude.{ℕ, ◌+◌, ◌/◌, ◌%◌, Bool, cond, Some, None, Option, ◌==◌, nat_lt, List, ◌++◌, codes}
+use Rattle.std.specs.Prelude.{ℕ, Bool, if◌then◌else◌, Some, None, Option, Result, ◌==◌, nat_lt, List, ◌++◌, codes}
 use Rattle.std.specs.Fmt.{decimal}
+use Rattle.std.specs.Option.{ok_or}
 use Rattle.calendar.specs.declared.weekdays.NoSuchWeekday.{NoSuchWeekday}
 use Rattle.calendar.specs.declared.weekdays.Weekday.{Weekday}
 use Rattle.calendar.specs.declared.weekdays.Weekday.TheVariants.{Monday, Tuesday, Wednesday, Thursday, Friday, Saturday, Sunday}
@@ -18,20 +19,24 @@ number_of Sunday = 6
 -- The weekday with this number, from 0 to 6.
 abbrev pub weekday_at : ℕ → Weekday
 weekday_at n =
-    cond (n == 0) Monday (cond (n == 1) Tuesday (cond (n == 2) Wednesday (cond (n == 3) Thursday
-    (cond (n == 4) Friday (cond (n == 5) Saturday Sunday)))))
+    if n == 0 then Monday
+    else (if n == 1 then Tuesday
+    else (if n == 2 then Wednesday
+    else (if n == 3 then Thursday
+    else (if n == 4 then Friday
+    else (if n == 5 then Saturday else Sunday)))))
 
 -- The weekday with this number, if there is one.
 abbrev pub weekday_of : ℕ → Option Weekday
-weekday_of n = cond (nat_lt n 7) (Some (weekday_at n)) None
+weekday_of n = if nat_lt n 7 then Some (weekday_at n) else None
+
+-- The same, or the number that no weekday has.
+abbrev pub weekday_or : ℕ → Result Weekday NoSuchWeekday
+weekday_or n = ok_or (weekday_of n) (record { number = n })
 
 -- From Monday to Friday.
 abbrev pub workday : Weekday → Bool
 workday weekday = nat_lt (number_of weekday) 5
-
--- The weekday of an hour that begins so many hours after the first midnight of a month, whose first day is `first`.
-abbrev pub weekday_in : (first : Weekday) (hour : ℕ) → Weekday
-weekday_in first hour = weekday_at ((number_of first + hour / 24) % 7)
 
 -- What is printed of a number that no weekday has.
 abbrev pub no_such_weekday_text : NoSuchWeekday → List ℕ
