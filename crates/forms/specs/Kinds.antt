@@ -1,10 +1,10 @@
 -- The two kinds of contract. Assumes nothing.
-use Rattle.std.specs.Prelude.{ℕ, ◌*◌, ◌/◌, Bool, cond, ◌&&◌, ◌==◌, nat_le}
+use Rattle.std.specs.Prelude.{ℕ, ◌*◌, ◌/◌, Bool, if◌then◌else◌, ◌&&◌, ◌==◌, nat_le}
 use Rattle.calendar.specs.declared.bands.Band.{Band}
 use Rattle.calendar.specs.declared.bands.Band.TheVariants.{Peak, Medium, Base}
 use Rattle.forms.specs.Market.{market_legs}
 use Rattle.forms.specs.Meaning.{Meaning}
-use Rattle.forms.specs.Terms.{generator, distributor}
+use Rattle.forms.specs.Roles.{generates, distributes, has_role}
 use Rattle.forms.specs.declared.Contract.{Contract}
 use Rattle.forms.specs.declared.Facts.{Facts}
 use Rattle.forms.specs.declared.Parties.{Parties}
@@ -35,13 +35,13 @@ abbrev pub share_takes : Contract → Parties → Bool
 share_takes terms parties =
     (terms.kind == 2)
     && ((terms.peak == 0 && (terms.medium == 0 && terms.base == 0))
-    && (parties.seller.role == generator && parties.buyer.role == distributor))
+    && (has_role generates parties.seller.role && has_role distributes parties.buyer.role))
 
 -- An hour has the seller's injected energy in the proportion of the buyer's withdrawn energy to that of all distributors, rounded
 -- down; nothing, where they withdrew nothing.
 abbrev pub shared_energy : Facts → ℕ
 shared_energy facts =
-    cond (facts.distributors_withdrawn == 0) 0 (facts.injected * facts.withdrawn / facts.distributors_withdrawn)
+    if facts.distributors_withdrawn == 0 then 0 else (facts.injected * facts.withdrawn / facts.distributors_withdrawn)
 
 abbrev pub share : Meaning
 share = record {

@@ -1,5 +1,5 @@
 -- Forms made of forms. Assumes nothing.
-use Rattle.std.specs.Prelude.{ℕ, ◌-◌, ◌≤◌, min, cond, ◌==◌}
+use Rattle.std.specs.Prelude.{ℕ, ◌-◌, ◌≤◌, min, if◌then◌else◌, ◌==◌}
 use Rattle.forms.specs.Kinds.{block, share}
 use Rattle.forms.specs.Meaning.{Meaning}
 use Rattle.forms.specs.declared.Contract.{Contract}
@@ -39,7 +39,7 @@ capped = layered up_to_capacity
 
 -- Of two forms the one that terms go to: the first if they have the named kind, else the second.
 abbrev pub picked : ℕ → Meaning → Meaning → Contract → Meaning
-picked kind first second terms = cond (terms.kind == kind) first second
+picked kind first second terms = if terms.kind == kind then first else second
 
 -- Two forms as one: each question goes to the one that the terms go to.
 abbrev pub by_kind : ℕ → Meaning → Meaning → Meaning

@@ -1,10 +1,13 @@
+pub mod Limits
 pub mod Roles
+pub mod Parties
 pub mod Terms
 pub mod Measured
 pub mod Meaning
 pub mod Market
 pub mod Kinds
 pub mod Layers
-pub mod Kept
+pub mod Known
 pub mod MarketLegs
 pub mod Quantities
+pub mod Kept

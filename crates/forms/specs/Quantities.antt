@@ -1,13 +1,15 @@
 -- The quantities of both kinds are within their limit. Assumes nothing.
-use Rattle.std.specs.Prelude.{◌≡◌, ℕ, ◌*◌, ◌/◌, ◌≤◌, true, ◌==◌}
+use Rattle.std.specs.Prelude.{◌≡◌, ℕ, ◌*◌, ◌/◌, ◌≤◌, true, IsTrue, ◌==◌}
 use Rattle.std.proofs.Math.Nat.{div-le_of_le-mul}
 use Rattle.std.proofs.Common.{mul_comm, mul-le-mul_left, arith}
 use Rattle.std.proofs.lemmas.Bool.{cond_both}
 use Rattle.std.proofs.lemmas.Bool.Decides.{nat_tests}
 use Rattle.calendar.specs.declared.bands.Band.{Band}
 use Rattle.calendar.specs.declared.bands.Band.TheVariants.{Peak, Medium, Base}
+use Rattle.forms.specs.Known.{peak_le, medium_le, base_le}
 use Rattle.forms.specs.Kinds.{quantity_in, share_takes, shared_energy}
-use Rattle.forms.specs.Terms.{Valid, distributor}
+use Rattle.forms.specs.Roles.{distributes, has_role}
+use Rattle.forms.specs.Terms.{Valid}
 use Rattle.forms.specs.declared.Contract.{Contract}
 use Rattle.forms.specs.declared.Facts.{Facts}
 use Rattle.forms.specs.declared.Parties.{Parties}
@@ -15,16 +17,16 @@ use Rattle.valuation.specs.Limits.{most_energy}
 
 -- a band's quantity
 pub quantity_in_le : (band : Band) (terms : Contract) (parties : Parties) → Valid terms parties → quantity_in band terms ≤ most_energy
-quantity_in_le Peak terms parties valid = valid.peak
-quantity_in_le Medium terms parties valid = valid.medium
-quantity_in_le Base terms parties valid = valid.base
+quantity_in_le Peak = peak_le
+quantity_in_le Medium = medium_le
+quantity_in_le Base = base_le
 
 -- a share of the injected energy is at most all of it
-pub share_le : (injected withdrawn all : ℕ) → withdrawn ≤ all → injected * withdrawn / all ≤ injected
+share_le : (injected withdrawn all : ℕ) → withdrawn ≤ all → injected * withdrawn / all ≤ injected
 share_le injected withdrawn all among = div-le_of_le-mul all (omega (arith, mul-le-mul_left injected among, mul_comm injected all))
 
 -- a share's buyer is a distributor
-pub share_buyer : (terms : Contract) (parties : Parties) → share_takes terms parties ≡ true → parties.buyer.role ≡ distributor
+pub share_buyer : (terms : Contract) (parties : Parties) → IsTrue (share_takes terms parties) → has_role distributes parties.buyer.role ≡ true
 share_buyer terms parties taken = grind (arith, nat_tests)
 
 -- a share of what a generator injects

@@ -14,7 +14,6 @@ use calendar::Band;
 pub struct Block;
 
 /// The kind of a block.
-// Kept as a number by the rule that kinds are open.
 pub(crate) const BLOCK_KIND: u32 = 1;
 
 /// The contract's quantity in a band.
@@ -47,6 +46,6 @@ impl ContractForm for Block {
     }
 
     fn legs(&self, hour: ContractHour, quantity: u32) -> Legs {
-        market_legs(hour.terms, hour.facts, quantity)
+        market_legs(hour, quantity)
     }
 }

@@ -7,10 +7,8 @@ use crate::hour::ContractHour;
 use crate::{Contract, Legs, Parties};
 
 /// Two forms as one: terms of the named kind go to the first, all others to the second.
-// Kept: three tests of the kind, since one that hands out a form of either type would need an enum with three matches of its own.
 #[derive(Clone, Copy)]
 pub struct ByKind<A, B> {
-    // Kept as a number by the rule that kinds are open.
     pub kind: u32,
     pub first: A,
     pub second: B,

@@ -11,12 +11,10 @@ pub trait ContractForm {
     ghost meaning: { Self → Meaning };
 
     /// Whether it takes these terms between these parties, whatever they are.
-    // Kept as two parameters, here and in `is_valid`: it is asked of any terms and any parties, so no fact travels with them that a type would carry.
     fn takes(&self, terms: Contract, parties: Parties) -> bool
         ensures { result ≡ (meaning self.now).takes terms parties };
 
     /// The energy of an hour, in kilowatt-hours.
-    // Kept as a clause, here, in `legs` and in `settle_hour`: a type is no plainer, since the fact is of the form and the hour together, and would borrow the form that is asked.
     fn quantity(&self, hour: ContractHour) -> u32
         requires { (meaning self.now).takes hour.terms hour.parties ≡ true }
         ensures { result ≡ (meaning self.now).quantity hour.terms hour.parties hour.facts };
@@ -27,6 +25,6 @@ pub trait ContractForm {
         requires limit { quantity ≤ most_energy }
         ensures { result ≡ (meaning self.now).legs hour.terms hour.parties hour.facts quantity };
 
-    // Quantities and legs are within their limits, and the two legs cancel.
+    // Quantities and legs are within their limits, and the legs cancel.
     ghost keeps: { (form : Self) → Keeps (meaning form) };
 }

@@ -1,7 +1,7 @@
-// Contracts between agents, and the contract forms: what a contract's terms mean for an hour.
-//
-// A form answers three questions: whether it takes terms, how much energy an hour has under them, and what the two parties owe
-// each other for it. Whoever writes a new form implements `ContractForm`.
+//! Contracts between agents, and the contract forms: what a contract's terms mean for an hour.
+//!
+//! A form answers three questions: whether it takes terms, how much energy an hour has under them, and what the parties owe
+//! each other for it. Whoever writes a new form implements `ContractForm`.
 #![tactic(auto)]
 
 mod block;
@@ -10,6 +10,7 @@ mod ceiling;
 mod form;
 mod hour;
 mod layer;
+mod limits;
 mod margin;
 mod market;
 mod measures;
@@ -28,6 +29,7 @@ pub use ceiling::{Ceiling, ToCapacity};
 pub use form::ContractForm;
 pub use hour::ContractHour;
 pub use layer::{Layer, Lowering};
+pub use limits::{MOST_AGENTS, MOST_CONTRACTS};
 pub use margin::{ByMargin, Margin};
 pub use market::market_legs;
 pub use measures::is_measured;
@@ -35,7 +37,8 @@ pub use products::Product;
 pub use roles::{Role, UnknownRole};
 pub use settling::settle_hour;
 pub use share::Share;
-pub use terms::is_valid;
+pub use terms::{do_figures_fit, do_hours_fit, do_parties_fit, is_valid};
+use valuation::MOST_ENERGY;
 
 /// Where the energy of a contract is delivered.
 #[derive(Clone, Copy, PartialEq, Eq, Debug)]
@@ -49,7 +52,6 @@ pub enum Delivery {
 #[derive(Clone, Copy, PartialEq, Eq, Debug)]
 pub struct Contract {
     pub delivery: Delivery,
-    // Kept as a number by the rule that kinds are open: whoever writes a form chooses the kind that it takes.
     pub kind: u32,
     pub seller: u32,
     pub buyer: u32,
@@ -65,9 +67,20 @@ pub struct Contract {
 /// A party to a contract: its role (1 generator, 2 distributor, 3 large consumer) and its capacity in kilowatt-hours of an hour.
 #[derive(Clone, Copy)]
 pub struct Party {
-    // Kept as a number by the rule that any figure is answered; `known_role` gives the role that it names.
     pub role: u32,
     pub capacity: u32,
+}
+
+impl Party {
+    ghost use Rattle.std.specs.Prelude.{◌≡◌};
+    ghost use Rattle.forms.specs.Terms.{party_fits};
+
+    /// Whether it is such as an agent may be: with a known role, and a capacity within its limit.
+    pub fn is_within_limits(&self) -> bool
+        ensures { result ≡ party_fits self.now }
+    {
+        Role::named(self.role).is_some() && self.capacity <= MOST_ENERGY
+    }
 }
 
 /// The two parties to a contract.

@@ -1,6 +1,6 @@
 //! Which facts an hour can have.
-ghost use Rattle.std.specs.Prelude.{◌≡◌, ◌↔◌, IsTrue};
-ghost use Rattle.forms.specs.Measured.{Measured, measured_facts, prices_fit, energies_fit};
+ghost use Rattle.std.specs.Prelude.{◌≡◌};
+ghost use Rattle.forms.specs.Measured.{measured_facts, prices_fit, withdrawn_fits};
 
 use crate::roles::Role;
 use crate::{Facts, Parties};
@@ -17,16 +17,13 @@ fn do_prices_fit(facts: Facts) -> bool
         && facts.buyer_factor <= MOST_FACTOR
 }
 
-/// Whether the injected energy, and all withdrawn energy together, are within their limits.
-fn do_energies_fit(parties: Parties, facts: Facts) -> bool
-    ensures { result ≡ energies_fit parties facts }
+/// Whether all withdrawn energy together is within its limit.
+fn does_withdrawn_fit(parties: Parties, facts: Facts) -> bool
+    ensures { result ≡ withdrawn_fits parties facts }
 {
-    if facts.injected > MOST_ENERGY {
-        return false;
-    }
     let all = u64::from(facts.distributors_withdrawn);
     let most = u64::from(MOST_ENERGY);
-    if parties.buyer.known_role() == Some(Role::Distributor) {
+    if Role::named(parties.buyer.role).is_some_and(Role::is_distributor) {
         facts.withdrawn <= facts.distributors_withdrawn && all <= most
     } else {
         u64::from(facts.withdrawn) + all <= most
@@ -35,8 +32,7 @@ fn do_energies_fit(parties: Parties, facts: Facts) -> bool
 
 /// Whether these can be the facts of an accepted posting, for a contract between these parties.
 pub fn is_measured(parties: Parties, facts: Facts) -> bool
-    ensures value { result ≡ measured_facts parties facts }
-    ensures decides { IsTrue result ↔ Measured parties facts }
+    ensures { result ≡ measured_facts parties facts }
 {
-    do_prices_fit(facts) && do_energies_fit(parties, facts)
+    do_prices_fit(facts) && facts.injected <= MOST_ENERGY && does_withdrawn_fit(parties, facts)
 }

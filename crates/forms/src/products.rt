@@ -15,7 +15,6 @@ use crate::{Contract, Legs, Parties};
 
 /// The product's form: blocks of kind 1 up to the seller's capacity; shares of kind 2, lowered by their margin, up to it. It takes
 /// no other kind.
-// Kept: a type of its own, since an alias of its parts' type would leave the kind open and have no value named `Product`.
 #[derive(Clone, Copy)]
 pub struct Product;
 

@@ -1,8 +1,7 @@
 //! The roles of agents.
 ghost use Rattle.std.specs.Prelude.{◌≡◌, Some};
-ghost use Rattle.forms.specs.Roles.{NamesRole, role_of, generates, carries, may_sell, unknown_role_text};
+ghost use Rattle.forms.specs.Roles.{NamesRole, role_of, generates, carries, distributes, may_sell_to, unknown_role_text};
 
-use crate::Party;
 use std::error::Error;
 use std::fmt;
 
@@ -44,6 +43,13 @@ impl fmt::Display for UnknownRole {
 impl Error for UnknownRole {}
 
 impl Role {
+    /// The role that a number names, if any.
+    pub fn named(number: u32) -> Option<Role>
+        ensures { result ≡ role_of number }
+    {
+        Role::try_from(number).ok()
+    }
+
     /// Whether it may be obligated or forced to run, and is paid for power.
     pub fn is_generator(self) -> bool
         ensures { result ≡ generates self }
@@ -58,23 +64,21 @@ impl Role {
         matches!(self, Role::Distributor | Role::Consumer)
     }
 
+    /// Whether the energy that it withdraws counts where energy is shared among distributors.
+    pub fn is_distributor(self) -> bool
+        ensures { result ≡ distributes self }
+    {
+        matches!(self, Role::Distributor)
+    }
+
     /// Whether an agent in it may sell to one in the role `buyer`.
     pub fn may_sell_to(self, buyer: Role) -> bool
-        ensures { result ≡ may_sell self buyer }
+        ensures { result ≡ may_sell_to self buyer }
     {
         match self {
             Role::Generator => buyer.is_carrier(),
             Role::Distributor => buyer == Role::Consumer,
             Role::Consumer => false,
         }
-    }
-}
-
-impl Party {
-    /// The role that its number names, if any.
-    pub fn known_role(&self) -> Option<Role>
-        ensures { result ≡ role_of self.now.role }
-    {
-        Role::try_from(self.role).ok()
     }
 }

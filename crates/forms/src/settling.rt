@@ -11,7 +11,8 @@ pub fn settle_hour<F: ContractForm>(form: &F, hour: ContractHour) -> Legs
     requires { (F.meaning form.now).takes hour.terms hour.parties ≡ true }
     ensures value { result ≡ hour_legs (F.meaning form.now) hour.terms hour.parties hour.facts }
     ensures balanced { Balanced result }
-    ensures alike { (other : Meaning) → Alike (F.meaning form.now) other → result ≡ hour_legs other hour.terms hour.parties hour.facts }
+    ensures alike { (other : Meaning) → Alike (F.meaning form.now) other →
+        result ≡ hour_legs other hour.terms hour.parties hour.facts }
 {
     form.legs(hour, form.quantity(hour))
 }

@@ -15,7 +15,6 @@ use crate::{Contract, Facts, Legs, Parties};
 pub struct Share;
 
 /// The kind of a share.
-// Kept as a number by the rule that kinds are open.
 const SHARE_KIND: u32 = 2;
 
 /// The buyer's share of the injected energy.
@@ -41,8 +40,8 @@ impl ContractForm for Share {
             && terms.peak == 0
             && terms.medium == 0
             && terms.base == 0
-            && parties.seller.known_role() == Some(Role::Generator)
-            && parties.buyer.known_role() == Some(Role::Distributor)
+            && Role::named(parties.seller.role).is_some_and(Role::is_generator)
+            && Role::named(parties.buyer.role).is_some_and(Role::is_distributor)
     }
 
     fn quantity(&self, hour: ContractHour) -> u32 {
@@ -50,6 +49,6 @@ impl ContractForm for Share {
     }
 
     fn legs(&self, hour: ContractHour, quantity: u32) -> Legs {
-        market_legs(hour.terms, hour.facts, quantity)
+        market_legs(hour, quantity)
     }
 }

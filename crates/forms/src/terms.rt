@@ -1,49 +1,55 @@
 //! Which terms a book may hold.
-ghost use Rattle.std.specs.Prelude.{◌≡◌, ◌↔◌, IsTrue};
-ghost use Rattle.forms.specs.Terms.{Valid, valid_terms, parties_fit, numbers_fit, figures_fit, roles_fit};
+ghost use Rattle.std.specs.Prelude.{◌≡◌};
+ghost use Rattle.forms.specs.Limits.{most_hours};
+ghost use Rattle.forms.specs.Roles.{roles_fit};
+ghost use Rattle.forms.specs.Terms.{valid_terms, number_fits, parties_fit, hours_fit, figures_fit};
 
+use crate::limits::{MOST_AGENTS, MOST_HOURS};
+use crate::roles::Role;
 use crate::{Contract, Parties};
 use valuation::{MOST_ENERGY, MOST_PRICE};
 
-/// The most agents of a book.
-const MOST_AGENTS: u32 = 64;
-
-/// The most hours of a month.
-const MOST_HOURS: u32 = 744;
+/// Whether an agent of some book has this number.
+fn does_number_fit(number: u32) -> bool
+    ensures { result ≡ number_fits number }
+{
+    1 <= number && number <= MOST_AGENTS
+}
 
 /// Whether the seller's role may sell to the buyer's.
 fn do_roles_fit(parties: Parties) -> bool
     ensures { result ≡ roles_fit parties.seller.role parties.buyer.role }
 {
-    match (parties.seller.known_role(), parties.buyer.known_role()) {
+    match (
+        Role::named(parties.seller.role),
+        Role::named(parties.buyer.role),
+    ) {
         (Some(seller), Some(buyer)) => seller.may_sell_to(buyer),
         _ => false,
     }
 }
 
-/// Whether the parties are agents of a book in roles that fit.
-fn do_parties_fit(parties: Parties) -> bool
-    ensures { result ≡ parties_fit parties }
+/// Whether the parties are agents of some book, apart from one another, in roles that go together.
+pub fn do_parties_fit(terms: Contract, parties: Parties) -> bool
+    ensures { result ≡ parties_fit terms parties }
 {
-    do_roles_fit(parties)
-        && parties.seller.capacity <= MOST_ENERGY
-        && parties.buyer.capacity <= MOST_ENERGY
+    does_number_fit(terms.seller)
+        && does_number_fit(terms.buyer)
+        && terms.seller != terms.buyer
+        && parties.seller.is_within_limits()
+        && parties.buyer.is_within_limits()
+        && do_roles_fit(parties)
 }
 
-/// Whether the parties' numbers and the hours are those of some book.
-fn do_numbers_fit(terms: Contract) -> bool
-    ensures { result ≡ numbers_fit terms }
+/// Whether the hours are in order, and within a month of so many.
+pub fn do_hours_fit(terms: Contract, hours: u32) -> bool
+    ensures { result ≡ hours_fit hours terms }
 {
-    1 <= terms.seller
-        && terms.seller <= MOST_AGENTS
-        && 1 <= terms.buyer
-        && terms.buyer <= MOST_AGENTS
-        && terms.first <= terms.last
-        && terms.last < MOST_HOURS
+    terms.first <= terms.last && terms.last < hours
 }
 
 /// Whether the price, the quantities and the margin are within their limits.
-fn do_figures_fit(terms: Contract) -> bool
+pub fn do_figures_fit(terms: Contract) -> bool
     ensures { result ≡ figures_fit terms }
 {
     terms.price <= MOST_PRICE
@@ -55,8 +61,7 @@ fn do_figures_fit(terms: Contract) -> bool
 
 /// Whether these terms, between these parties, can stand in some book: its month and its agents are for the book to compare.
 pub fn is_valid(terms: Contract, parties: Parties) -> bool
-    ensures value { result ≡ valid_terms terms parties }
-    ensures decides { IsTrue result ↔ Valid terms parties }
+    ensures { result ≡ valid_terms terms parties }
 {
-    do_parties_fit(parties) && do_numbers_fit(terms) && do_figures_fit(terms)
+    do_parties_fit(terms, parties) && do_hours_fit(terms, MOST_HOURS) && do_figures_fit(terms)
 }

@@ -58,7 +58,6 @@ fn between(seller_role: u32, buyer_role: u32, seller_capacity: u32) -> Parties {
 }
 
 /// The quantity and the legs of an hour; none where the form, the terms or the facts are refused.
-// Kept beside the like of it in the tests of `profile`: tests of two crates share no helper, and each is one chain.
 fn settled<F: ContractForm>(
     form: &F,
     terms: Contract,

@@ -47,6 +47,28 @@ fn terms_that_are_valid(rt: HostRuntime) {
     }
 }
 
+// An agent is no other's party to itself, whatever roles it is said to have: only one number of two is changed, to its neighbours
+// and to the other's.
+#[test]
+fn contracts_of_an_agent_with_itself(rt: HostRuntime) {
+    for (seller, buyer, valid) in [
+        (1, 1, false),
+        (1, 2, true),
+        (2, 1, true),
+        (2, 2, false),
+        (64, 64, false),
+        (63, 64, true),
+        (64, 63, true),
+    ] {
+        let terms = Contract {
+            seller,
+            buyer,
+            ..BLOCK
+        };
+        assert_eq!(rt; is_valid(terms, between(1, 2, 100)), valid);
+    }
+}
+
 // Each figure alone is 1 above its limit, and the others are at theirs.
 #[test]
 fn terms_with_a_figure_too_high(rt: HostRuntime) {
