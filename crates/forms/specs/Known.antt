@@ -3,7 +3,7 @@ use Rattle.std.specs.Prelude.{◌≡◌, ℕ, ◌≤◌, true, IsTrue}
 use Rattle.std.proofs.Common.{arith}
 use Rattle.std.proofs.lemmas.Bool.{and_parts}
 use Rattle.std.proofs.lemmas.Bool.Decides.{nat_tests}
-use Rattle.forms.specs.Limits.{most_hours}
+use Rattle.calendar.specs.Limits.{most_hours}
 use Rattle.forms.specs.Measured.{Measured}
 use Rattle.forms.specs.Roles.{distributes, has_role}
 use Rattle.forms.specs.Terms.{parties_fit, hours_fit, figures_fit, Valid}

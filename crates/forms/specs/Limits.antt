@@ -9,10 +9,6 @@ most_agents = 64
 abbrev pub most_contracts : ℕ
 most_contracts = 64
 
--- The most hours of a month.
-abbrev pub most_hours : ℕ
-most_hours = 744
-
 -- The most points of a leg: the largest amount and the largest cost amount together.
 abbrev pub most_leg : ℕ
 most_leg = most_amount + most_cost_amount

@@ -1,10 +1,11 @@
 -- The terms that a book may hold, by three tests. Assumes nothing.
 use Rattle.std.specs.Prelude.{ℕ, Bool, true, not, ◌&&◌, ◌==◌, List, [], ◌∷◌, IsTrue, is_some, nat_le, nat_lt}
 use Rattle.std.specs.List.{list_all}
+use Rattle.calendar.specs.Limits.{most_hours}
 use Rattle.forms.specs.declared.Contract.{Contract}
 use Rattle.forms.specs.declared.Parties.{Parties}
 use Rattle.forms.specs.declared.Party.{Party}
-use Rattle.forms.specs.Limits.{most_agents, most_hours}
+use Rattle.forms.specs.Limits.{most_agents}
 use Rattle.forms.specs.Roles.{role_of, roles_fit}
 use Rattle.forms.specs.Parties.{party_numbers, members_of}
 use Rattle.valuation.specs.Limits.{most_energy, most_price}

@@ -15,7 +15,7 @@ pub struct ByKind<A, B> {
 }
 
 impl<A: ContractForm, B: ContractForm> ContractForm for ByKind<A, B> {
-    ghost meaning = { λ pair. by_kind pair.kind (A.ContractForm.meaning pair.first) (B.ContractForm.meaning pair.second) };
+    ghost meaning = { λ pair. by_kind pair.kind (A.meaning pair.first) (B.meaning pair.second) };
 
     ghost keeps = { λ pair. by_kind_keeps pair.kind (A.ContractForm.keeps pair.first) (B.ContractForm.keeps pair.second) };
 

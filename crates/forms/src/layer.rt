@@ -27,7 +27,7 @@ pub struct Layer<L, F> {
 }
 
 impl<L: Lowering, F: ContractForm> ContractForm for Layer<L, F> {
-    ghost meaning = { λ layer. layered (L.Lowering.rule layer.lowering) (F.ContractForm.meaning layer.form) };
+    ghost meaning = { λ layer. layered (L.rule layer.lowering) (F.meaning layer.form) };
 
     ghost keeps = { λ layer. layered_keeps (L.Lowering.never_raises layer.lowering) (F.ContractForm.keeps layer.form) };
 

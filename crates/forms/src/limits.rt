@@ -5,6 +5,3 @@ pub const MOST_AGENTS: u32 = 64;
 
 /// The most contracts of a book.
 pub const MOST_CONTRACTS: u32 = 64;
-
-/// The most hours of a month.
-pub(crate) const MOST_HOURS: u32 = 744;

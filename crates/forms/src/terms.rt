@@ -1,12 +1,12 @@
 //! Which terms a book may hold.
 ghost use Rattle.std.specs.Prelude.{◌≡◌};
-ghost use Rattle.forms.specs.Limits.{most_hours};
 ghost use Rattle.forms.specs.Roles.{roles_fit};
 ghost use Rattle.forms.specs.Terms.{valid_terms, number_fits, parties_fit, hours_fit, figures_fit};
 
-use crate::limits::{MOST_AGENTS, MOST_HOURS};
+use crate::limits::MOST_AGENTS;
 use crate::roles::Role;
 use crate::{Contract, Parties};
+use calendar::MOST_HOURS;
 use valuation::{MOST_ENERGY, MOST_PRICE};
 
 /// Whether an agent of some book has this number.
