@@ -1,9 +1,13 @@
-pub mod Energy
 pub mod Lawful
+pub mod Lines
 pub mod Money
+pub mod Energy
 pub mod Pair
 pub mod Peak
 pub mod Total
-pub mod EnergyLaws
+pub mod Sums
+pub mod Failing
+pub mod LinesLaws
 pub mod MoneyLaws
+pub mod EnergyLaws
 pub mod PeakLaws

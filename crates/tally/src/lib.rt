@@ -11,8 +11,8 @@ pub mod peak;
 pub mod traits;
 
 pub use energy::Energy;
-pub use folds::{fold, fold_day, fold_days, update};
-pub use money::Money;
+pub use folds::{fold, fold_days, update};
+pub use money::{Money, MoneyLine};
 pub use pair::Pair;
 pub use peak::Peak;
 pub use traits::{Reversible, Tally};

@@ -1,4 +1,4 @@
-use crate::{Energy, Money, Pair, Peak, Reversible, Tally, fold, fold_day, fold_days, update};
+use crate::{Energy, Money, MoneyLine, Pair, Peak, Reversible, Tally, fold, fold_days, update};
 
 fn money(market: i64, contract: i64, overcost: i64, power: i64) -> Money {
     Money {
@@ -124,7 +124,7 @@ fn accounts_are_updated(rt: HostRuntime) {
     }
 }
 
-// How many hours, and what all of them and what the third day come to.
+// How many hours, and what all of them and what those from the third day on come to.
 #[test]
 fn days_fold(rt: HostRuntime) {
     let mut hours = [energy(1, 2); 50];
@@ -137,10 +137,34 @@ fn days_fold(rt: HostRuntime) {
     ];
     for (count, all, third) in cases {
         assert!(rt; count <= 50);
-        let month = &hours[0..count];
-        assert_eq!(rt; fold_days(month), all);
-        assert_eq!(rt; fold_day(month, 2), third);
-        assert_eq!(rt; fold_day(month, usize::MAX), energy(0, 0));
+        assert_eq!(rt; fold_days(&hours[0..count]), all);
+        assert_eq!(rt; fold(&hours[count.min(48)..count]), third);
     }
-    assert_eq!(rt; fold_day(&hours, 1), energy(24, 48));
+    assert_eq!(rt; fold(&hours[24..48]), energy(24, 48));
+}
+
+// The lines of money one by one, and together.
+#[test]
+fn money_by_line(rt: HostRuntime) {
+    let lines = money(1, -20, 300, i64::MIN);
+    let by_line = [1, -20, 300, i64::MIN];
+    let mut joined = Money::neutral();
+    for (line, points) in MoneyLine::ALL.into_iter().zip(by_line) {
+        assert_eq!(rt; lines.on(line), points);
+        let alone = Money::alone(line, points);
+        for other in MoneyLine::ALL {
+            assert_eq!(rt; alone.on(other), if other == line { points } else { 0 });
+        }
+        joined = joined.join(alone);
+    }
+    assert_eq!(rt; joined, lines);
+    let cases = [
+        (money(560_000, -40, 3, 5), 559_968),
+        (money(0, 0, 0, 0), 0),
+        (money(i64::MAX, 1, 0, 0), i64::MIN),
+        (money(i64::MIN, 0, 0, -1), i64::MAX),
+    ];
+    for (lines, balance) in cases {
+        assert_eq!(rt; lines.balance(), balance);
+    }
 }

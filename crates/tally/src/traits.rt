@@ -9,7 +9,6 @@ pub trait Tally: Sized {
     ghost joined: { Self → Self → Self };
 
     /// The total of no values.
-    // Kept beside `Default`, which is no plainer: a law would have to tie its value to `join` all the same.
     fn neutral() -> Self
         ensures { result ≡ nothing };
 

@@ -1,12 +1,12 @@
 use Rattle.std.proofs.Common.{ap, ◌∙◌, rules}
 use Rattle.std.proofs.lemmas.Int.{wraps}
 use Rattle.tally.specs.Money.{money_joined}
-use Rattle.tally.specs.MoneyLaws.{money_same, money_cancels}
-use Rattle.tally.proofs.money.sums.MoneyReversible.opposite.Goals as goal
+use Rattle.tally.specs.MoneyLaws.{money_each, money_cancels}
+use Rattle.tally.proofs.money.MoneyReversible.opposite.Goals as goal
 
 pub returns : goal.returns
 returns c =
-    let negated = money_same _ _ (search (rules, wraps)) (search (rules, wraps)) (search (rules, wraps)) (search (rules, wraps)) in
+    let negated = money_each _ _ (search (rules, wraps)) (search (rules, wraps)) (search (rules, wraps)) (search (rules, wraps)) in
     record {
       value = negated;
       cancels = ap (money_joined c.args.self) negated ∙ money_cancels c.args.self;

@@ -5,7 +5,7 @@ use Rattle.std.specs.Ordering.{ord_max, ordering_then, nat_cmp}
 use Rattle.tally.specs.declared.peak.Peak.{Peak}
 use Rattle.tally.specs.Peak.{peak_joined}
 use Rattle.tally.specs.PeakLaws.{peak_same}
-use Rattle.tally.proofs.peak.sums.PeakTally.join.Goals as goal
+use Rattle.tally.proofs.peak.PeakTally.join.Goals as goal
 
 -- the larger by kWh, and of equal kWh by the earlier hour, is the two joined
 larger : (x y : Peak) → ord_max (λ (a b : Peak). ordering_then (nat_cmp a.kwh b.kwh) (nat_cmp b.hour a.hour)) x y ≡ peak_joined x y
