@@ -6,8 +6,8 @@ use Rattle.std.proofs.lemmas.List.{get_or-set_same, get_or-set_other}
 use Rattle.std.proofs.lemmas.Bool.{cases_eq, eq-eqb, ne_eqb, lt-ltb, le-ltb, and_from, and_left, and_right}
 use Rattle.std.proofs.lemmas.Bool.Decides.{nat_tests}
 use Rattle.settlement.proofs.Sums.{map_counting_same}
-use Rattle.book.specs.Calls.{entry_place, entries_with, accounts_with}
-use Rattle.settlement.specs.Holdings.{Holding, no_holding, holding_joined, holding_undone}
+use Rattle.book.specs.Rewriting.{entry_place, account_with, entries_with, accounts_with}
+use Rattle.settlement.specs.Holdings.{Holding, no_holding}
 
 -- an agent's entry of an hour lies within the entries of all
 pub place_within : (hours hour n i : ℕ) → hour < hours → i < n → entry_place hours i hour < n * hours
@@ -16,6 +16,10 @@ place_within hours hour n i within below = omega (arith, mul-add-lt i hours hour
 -- and so does its whole month
 pub month_within : (hours n i : ℕ) → i < n → i * hours + hours ≤ n * hours
 month_within hours n i below = omega (arith, mul-le-mul_right hours below, add-mul i 1 hours, ap (λ k. k * hours) (add-one i))
+
+-- and each of its days
+pub day_within : (hours days n i day : ℕ) → hours ≡ 24 * days → i < n → day < days → i * hours + 24 * day + 24 ≤ n * hours
+day_within hours days n i day is below within = omega (arith, month_within hours n i below)
 
 module _ (hours hour : ℕ) (within : hour < hours) (fresh before : List Holding) where
   -- the agents before i have their new entry
@@ -72,7 +76,8 @@ module _ (hours hour : ℕ) (within : hour < hours) (fresh before : List Holding
 
   -- the accounts of the agents before i have lost the old entry and gained the new
   abbrev pub account_after : List Holding → ℕ → Holding
-  account_after accounts k = holding_joined (holding_joined (get_or accounts k no_holding) (holding_undone (get_or before (entry_place hours k hour) no_holding))) (get_or fresh k no_holding)
+  account_after accounts k =
+      account_with (get_or accounts k no_holding) (get_or before (entry_place hours k hour) no_holding) (get_or fresh k no_holding)
 
   abbrev pub Settled : List Holding → ℕ → List Holding → Type 0
   Settled old i accounts = (k : ℕ) → k < length old → get_or accounts k no_holding ≡ cond (ltb k i) (account_after old k) (get_or old k no_holding)
@@ -116,4 +121,4 @@ module _ (hours hour n : ℕ) (within : hour < hours) (new new' : ℕ → Holdin
   pub accounts_with_same : (before old : List Holding) → length old ≡ n → accounts_with hours hour new before old ≡ accounts_with hours hour new' before old
   accounts_with_same before old size =
       map_counting_same (length old) _ _
-      (λ i below. ap (holding_joined (holding_joined (get_or old i no_holding) (holding_undone (get_or before (entry_place hours i hour) no_holding)))) (same i (omega arith)))
+      (λ i below. ap (account_with (get_or old i no_holding) (get_or before (entry_place hours i hour) no_holding)) (same i (omega arith)))

@@ -1,4 +1,12 @@
 pub mod Months
 pub mod Memory
 pub mod Lent
-pub mod Calls
+pub mod Outcomes
+pub mod Opening
+pub mod Rewriting
+pub mod Posting
+pub mod Withdrawal
+pub mod Entering
+pub mod Closing
+pub mod Statements
+pub mod Days

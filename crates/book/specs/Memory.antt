@@ -1,5 +1,5 @@
 -- The memory of a book that the host lends, and what a call finds wrong in it. Assumes nothing.
-use Rattle.std.specs.Prelude.{ℕ, ◌*◌, Bool, not, ◌&&◌, List, length, sum_by, Option, ◌==◌, nat_le, slice_index}
+use Rattle.std.specs.Prelude.{ℕ, ◌*◌, Bool, not, ◌&&◌, List, [], ◌∷◌, length, sum_by, Option, ◌==◌, nat_le, slice_index}
 use Rattle.std.specs.List.{list_all}
 use Rattle.forms.specs.declared.Contract.{Contract}
 use Rattle.forms.specs.Meaning.{Meaning}
@@ -8,8 +8,10 @@ use Rattle.settlement.specs.declared.faults.BookFault.{BookFault}
 use Rattle.settlement.specs.declared.faults.BookFault.TheVariants.{WrongSize, StoredOutside}
 use Rattle.settlement.specs.Agents.{agent_fits}
 use Rattle.settlement.specs.ContractFaults.{place_fits}
-use Rattle.settlement.specs.Faults.{met_if}
+use Rattle.settlement.specs.Faults.{met_if, first_met}
 use Rattle.settlement.specs.Holdings.{Holding}
+use Rattle.book.specs.declared.months.MonthFigures.{MonthFigures}
+use Rattle.book.specs.Months.{hours_of, most_days}
 
 -- all memory of a book: a record and an account per agent, the contract places, a mark per hour, and an entry per agent and hour,
 -- agent after agent
@@ -20,11 +22,41 @@ pub record Memory : Type 0 where
   pub marks : List ℕ
   pub entries : List Holding
 
--- the memory of a book of so many agents and hours
-abbrev pub sized : (count hours : ℕ) → Memory → Bool
-sized count hours m =
-    (length m.agents == count) && (length m.accounts == count && (length m.contracts == 64
-    && (length m.marks == hours && length m.entries == count * hours)))
+-- all memory, from its parts
+abbrev pub memory_of : List Agent → List Holding → List (Option Contract) → List ℕ → List Holding → Memory
+memory_of agents accounts contracts marks entries = record {
+  agents = agents;
+  accounts = accounts;
+  contracts = contracts;
+  marks = marks;
+  entries = entries;
+}
+
+-- whether a mark says that a posting stands at an hour
+abbrev pub is_posted : List ℕ → ℕ → Bool
+is_posted marks hour = not (slice_index marks hour == 0)
+
+-- ---- its size
+
+-- the contract places of a book
+abbrev pub contract_places : ℕ
+contract_places = 64
+
+-- the memory of a book of these figures
+abbrev pub sized : MonthFigures → Memory → Bool
+sized f m =
+    (length m.agents == f.agents) && (length m.accounts == f.agents && (length m.contracts == contract_places
+    && (length m.marks == hours_of f.days && length m.entries == f.agents * hours_of f.days)))
+
+-- ---- its figures
+
+-- the most energy of an entry, in kWh
+abbrev pub most_hour_energy : ℕ
+most_hour_energy = 4000000
+
+-- the most energy of an account, and of all withdrawn energy together
+abbrev pub most_month_energy : ℕ
+most_month_energy = hours_of most_days * most_hour_energy
 
 -- a mark is 0, free, or 1, posted
 abbrev pub mark_fits : ℕ → Bool
@@ -38,25 +70,24 @@ energy_within most holding = nat_le holding.second.injected most && nat_le holdi
 abbrev pub all_withdrawn : List Holding → ℕ
 all_withdrawn accounts = sum_by (λ account. account.second.withdrawn) accounts
 
--- whether a mark says that a posting stands at an hour
-abbrev pub is_posted : List ℕ → ℕ → Bool
-is_posted marks hour = not (slice_index marks hour == 0)
+-- stored figures are within their limits: agents, contracts by the test of an entry, marks, and the energies of entries, of accounts, and so of
+-- all withdrawn energy together
+abbrev pub stored_fits : Meaning → MonthFigures → Memory → Bool
+stored_fits form f m =
+    list_all agent_fits m.agents && (list_all (place_fits form (hours_of f.days) m.agents) m.contracts
+    && (list_all mark_fits m.marks && (list_all (energy_within most_hour_energy) m.entries
+    && (list_all (energy_within most_month_energy) m.accounts && nat_le (all_withdrawn m.accounts) most_month_energy))))
 
--- stored figures are within their limits: agents, contracts by the test of an entry, marks, and the energies of entries, 4,000,000 kWh, of accounts,
--- 2,976,000,000, and so of all withdrawn energy together
-abbrev pub stored_fits : Meaning → (hours : ℕ) → Memory → Bool
-stored_fits form hours m =
-    list_all agent_fits m.agents && (list_all (place_fits form hours m.agents) m.contracts && (list_all mark_fits m.marks
-    && (list_all (energy_within 4000000) m.entries && (list_all (energy_within 2976000000) m.accounts && nat_le (all_withdrawn m.accounts) 2976000000))))
+-- ---- its faults
 
 -- 1: memory of the wrong size
-abbrev pub size_fault : (count hours : ℕ) → Memory → Option BookFault
-size_fault count hours m = met_if (not (sized count hours m)) WrongSize
+abbrev pub size_fault : MonthFigures → Memory → Option BookFault
+size_fault f m = met_if (not (sized f m)) WrongSize
 
 -- 2: a stored figure outside its limit
-abbrev pub stored_fault : Meaning → (hours : ℕ) → Memory → Option BookFault
-stored_fault form hours m = met_if (not (stored_fits form hours m)) StoredOutside
+abbrev pub stored_fault : Meaning → MonthFigures → Memory → Option BookFault
+stored_fault form f m = met_if (not (stored_fits form f m)) StoredOutside
 
--- all memory, from its parts
-abbrev pub memory_of : List Agent → List Holding → List (Option Contract) → List ℕ → List Holding → Memory
-memory_of agents accounts contracts marks entries = record { agents = agents; accounts = accounts; contracts = contracts; marks = marks; entries = entries }
+-- the faults of memory, of which each call on a month tells the first before all others
+abbrev pub memory_fault : Meaning → MonthFigures → Memory → Option BookFault
+memory_fault form f m = first_met (size_fault f m ∷ stored_fault form f m ∷ [])

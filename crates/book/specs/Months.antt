@@ -1,8 +1,7 @@
 -- The month, open or closed: its figures and its hours. Assumes nothing.
 use Rattle.std.specs.Prelude.{ℕ, ◌*◌, Bool, ◌&&◌, Ok, Err, Result, nat_le}
-use Rattle.calendar.specs.Weekdays.{number_of}
 use Rattle.settlement.specs.declared.faults.BookFault.{BookFault}
-use Rattle.book.specs.declared.months.Month.{Month}
+use Rattle.book.specs.declared.months.Extent.{Extent}
 use Rattle.book.specs.declared.months.OpenMonth.{OpenMonth}
 use Rattle.book.specs.declared.months.ClosedMonth.{ClosedMonth}
 use Rattle.book.specs.declared.months.MonthFigures.{MonthFigures}
@@ -11,16 +10,16 @@ use Rattle.book.specs.declared.months.MonthFigures.{MonthFigures}
 abbrev pub month_figures : (agents days weekday : ℕ) → MonthFigures
 month_figures agents days weekday = record { agents = agents; days = days; weekday = weekday }
 
--- the figures of a month
-abbrev pub figures_in : Month → MonthFigures
-figures_in month = record { agents = month.agents; days = month.days; weekday = number_of month.first }
+-- the figures of a month as it is looked at
+abbrev pub figures_in : Extent → MonthFigures
+figures_in month = month_figures month.agents month.days month.weekday
 
 -- those of an open month, and of a closed one
 abbrev pub figures_of : OpenMonth → MonthFigures
-figures_of month = figures_in month.month
+figures_of month = month_figures month.agents month.days month.weekday
 
 abbrev pub closed_figures_of : ClosedMonth → MonthFigures
-closed_figures_of month = figures_in month.month
+closed_figures_of month = month_figures month.agents month.days month.weekday
 
 -- an opening's answer, by the figures of the month that it gives
 abbrev pub opened_as : {F : Type 0} → Result OpenMonth F → Result MonthFigures F
@@ -36,6 +35,13 @@ closed_as (Err back) = Err back.1
 abbrev pub hours_of : ℕ → ℕ
 hours_of days = 24 * days
 
+-- the most agents of a book, and the most days of a month
+abbrev pub most_agents : ℕ
+most_agents = 64
+
+abbrev pub most_days : ℕ
+most_days = 31
+
 -- 1 to 64 agents, 1 to 31 days
 abbrev pub size_known : MonthFigures → Bool
-size_known f = nat_le 1 f.agents && (nat_le f.agents 64 && (nat_le 1 f.days && nat_le f.days 31))
+size_known f = nat_le 1 f.agents && (nat_le f.agents most_agents && (nat_le 1 f.days && nat_le f.days most_days))

@@ -3,19 +3,27 @@ ghost use Rattle.std.specs.Prelude.{◌≡◌, ◌-◌, ◌<◌, ◌≤◌, not,
 ghost use Rattle.std.specs.Result.{result_err};
 ghost use Rattle.settlement.specs.ContractFaults.{number_known, covered_fault};
 ghost use Rattle.settlement.specs.Faults.{met_if};
-ghost use Rattle.book.specs.Calls.{outcome_of, enter_fault, entered, cancel_fault, cancelled};
+ghost use Rattle.book.specs.Entering.{enter_fault, entered, cancel_fault, cancelled};
 ghost use Rattle.book.specs.Lent.{memory_seen, memory_with};
 ghost use Rattle.book.specs.Memory.{is_posted};
 ghost use Rattle.book.specs.Months.{figures_in, figures_of};
+ghost use Rattle.book.specs.Outcomes.{outcome_of};
 
 use crate::memory::{Ledger, Pool, View};
-use crate::months::{Month, OpenMonth};
+use crate::months::{Extent, OpenMonth};
 use crate::posting::FREE;
 use forms::{Contract, ContractForm};
 use settlement::{Admission, Agent, BookFault};
 
 /// The contract numbers of a book, from 1.
 const CONTRACT_NUMBERS: u32 = 64;
+
+/// A contract, and the number that it is to stand under.
+#[derive(Clone, Copy, PartialEq, Eq, Debug)]
+pub struct NumberedContract {
+    pub number: u32,
+    pub contract: Contract,
+}
 
 /// The contract place of a number, or a refusal of one outside 1 to 64.
 fn place_of(number: u32) -> Result<usize, BookFault>
@@ -43,74 +51,72 @@ fn check_covered(contract: Contract, marks: &[u8]) -> Result<(), BookFault>
     Ok(())
 }
 
-impl View<'_, '_> {
-    /// The place of a contract that may be entered under a number: the number is free, and no hour that it covers stands.
-    fn check_entry<F: ContractForm>(
-        &self,
-        form: &F,
-        month: &Month,
-        number: u32,
-        contract: Contract,
-    ) -> Result<usize, BookFault>
-        ensures fault { result_err result ≡ enter_fault (F.meaning form.now) (figures_in month.now) number contract (memory_seen self.now) }
-        ensures place { IfOk result (λ place. place ≡ number - 1) }
-        ensures within { IfOk result (λ place. place < length self.now.pool.contracts.now) }
-    {
-        self.check(form, month)?;
-        let place = place_of(number)?;
-        if self.pool.contracts[place].is_some() {
-            return Err(BookFault::ContractNumber);
-        }
-        let admission = Admission {
-            form,
-            hours: month.hours(),
-            agents: self.pool.agents,
-        };
-        if !admission.may_stand(contract) {
-            return Err(BookFault::ContractTerms);
-        }
-        check_covered(contract, self.marks)?;
-        Ok(place)
+/// The place of a contract that may be entered under its number: the number is free, and no hour that the contract covers stands.
+fn place_to_enter<F: ContractForm>(
+    month: Extent,
+    form: &F,
+    numbered: NumberedContract,
+    view: &View<'_, '_>,
+) -> Result<usize, BookFault>
+    ensures fault { result_err result
+        ≡ enter_fault (F.meaning form.now) (figures_in month) numbered.number numbered.contract (memory_seen view.now) }
+    ensures place { IfOk result (λ place. place ≡ numbered.number - 1) }
+    ensures within { IfOk result (λ place. place < length view.now.pool.contracts.now) }
+{
+    view.check(form, month)?;
+    let place = place_of(numbered.number)?;
+    if view.pool.contracts[place].is_some() {
+        return Err(BookFault::ContractNumber);
     }
+    let admission = Admission {
+        form,
+        hours: month.hours(),
+        agents: view.pool.agents,
+    };
+    if !admission.may_stand(numbered.contract) {
+        return Err(BookFault::ContractTerms);
+    }
+    check_covered(numbered.contract, view.marks)?;
+    Ok(place)
+}
 
-    /// The place of the contract that may be cancelled under a number: one stands there, and no hour that it covers stands.
-    fn check_cancelling<F: ContractForm>(
-        &self,
-        form: &F,
-        month: &Month,
-        number: u32,
-    ) -> Result<usize, BookFault>
-        ensures fault { result_err result ≡ cancel_fault (F.meaning form.now) (figures_in month.now) number (memory_seen self.now) }
-        ensures place { IfOk result (λ place. place ≡ number - 1) }
-        ensures within { IfOk result (λ place. place < length self.now.pool.contracts.now) }
-    {
-        self.check(form, month)?;
-        let place = place_of(number)?;
-        let Some(contract) = self.pool.contracts[place] else {
-            return Err(BookFault::ContractNumber);
-        };
-        check_covered(contract, self.marks)?;
-        Ok(place)
-    }
+/// The place of the contract that may be cancelled under a number: one stands there, and no hour that it covers stands.
+fn place_to_cancel<F: ContractForm>(
+    month: Extent,
+    form: &F,
+    number: u32,
+    view: &View<'_, '_>,
+) -> Result<usize, BookFault>
+    ensures fault { result_err result
+        ≡ cancel_fault (F.meaning form.now) (figures_in month) number (memory_seen view.now) }
+    ensures place { IfOk result (λ place. place ≡ number - 1) }
+    ensures within { IfOk result (λ place. place < length view.now.pool.contracts.now) }
+{
+    view.check(form, month)?;
+    let place = place_of(number)?;
+    let Some(contract) = view.pool.contracts[place] else {
+        return Err(BookFault::ContractNumber);
+    };
+    check_covered(contract, view.marks)?;
+    Ok(place)
 }
 
 /// Enters a contract under a number, 1 to 64, that is free. No hour that it covers may stand.
 pub fn enter<F: ContractForm>(
     month: &OpenMonth,
     form: &F,
-    number: u32,
-    contract: Contract,
+    numbered: NumberedContract,
     agents: &[Agent],
     contracts: &mut [Option<Contract>],
     ledger: &Ledger<'_>,
 ) -> Result<(), BookFault>
-    ensures { outcome_of result (memory_with agents.now contracts.new ledger.now) ≡ entered (F.meaning form.now) (figures_of month.now) number contract (memory_with agents.now contracts.old ledger.now) }
+    ensures { let before = memory_with agents.now contracts.old ledger.now in
+        outcome_of result (memory_with agents.now contracts.new ledger.now)
+        ≡ entered (F.meaning form.now) (figures_of month.now) numbered.number numbered.contract before }
 {
     let pool = Pool { agents, contracts };
-    let place = ledger
-        .view(&pool)
-        .check_entry(form, &month.month, number, contract)?;
-    contracts[place] = Some(contract);
+    let place = place_to_enter(month.extent(), form, numbered, &ledger.view(&pool))?;
+    contracts[place] = Some(numbered.contract);
     Ok(())
 }
 
@@ -123,12 +129,12 @@ pub fn cancel<F: ContractForm>(
     contracts: &mut [Option<Contract>],
     ledger: &Ledger<'_>,
 ) -> Result<(), BookFault>
-    ensures { outcome_of result (memory_with agents.now contracts.new ledger.now) ≡ cancelled (F.meaning form.now) (figures_of month.now) number (memory_with agents.now contracts.old ledger.now) }
+    ensures { let before = memory_with agents.now contracts.old ledger.now in
+        outcome_of result (memory_with agents.now contracts.new ledger.now)
+        ≡ cancelled (F.meaning form.now) (figures_of month.now) number before }
 {
     let pool = Pool { agents, contracts };
-    let place = ledger
-        .view(&pool)
-        .check_cancelling(form, &month.month, number)?;
+    let place = place_to_cancel(month.extent(), form, number, &ledger.view(&pool))?;
     contracts[place] = None;
     Ok(())
 }

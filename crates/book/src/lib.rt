@@ -14,7 +14,7 @@ mod statements;
 mod views;
 
 pub use closing::close;
-pub use entering::{cancel, enter};
+pub use entering::{NumberedContract, cancel, enter};
 pub use memory::{Ledger, Pool, View};
 pub use months::{ClosedMonth, MonthFigures, OpenMonth};
 pub use opening::open;

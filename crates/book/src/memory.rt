@@ -1,11 +1,22 @@
-//! The memory of a book: the host lends it, and every call is given it.
-ghost use Rattle.std.specs.Prelude.{◌≡◌};
-ghost use Rattle.book.specs.Lent.{memory_in, memory_seen};
+//! The memory of a book: the host lends it, and every call is given it and looks it over.
+ghost use Rattle.std.specs.Prelude.{◌≡◌, ◌≤◌, true, length, IfOk};
+ghost use Rattle.std.specs.List.{list_all};
+ghost use Rattle.std.specs.Result.{result_err};
+ghost use Rattle.settlement.specs.Agents.{agent_fits};
+ghost use Rattle.book.specs.Memory.{mark_fits, energy_within, all_withdrawn, most_month_energy};
 
-pub(crate) mod checks;
+use crate::months::{Extent, MonthFigures};
+use forms::{Contract, ContractForm};
+use settlement::{Account, Admission, Agent, BookFault, Entry};
 
-use forms::Contract;
-use settlement::{Account, Agent, Entry};
+/// The contract places of a book.
+const CONTRACT_PLACES: usize = 64;
+
+/// The most energy of an entry, in kWh.
+const MOST_ENERGY: u64 = 4_000_000;
+
+/// The most energy of an account, and of all withdrawn energy together, in kWh.
+const MOST_MONTH_ENERGY: u64 = 744 * MOST_ENERGY;
 
 /// Who takes part in a month, and the contract places: looked into by every call, and written only by those on contracts.
 #[derive(Clone, Copy)]
@@ -14,14 +25,10 @@ pub struct Pool<'p> {
     pub contracts: &'p [Option<Contract>],
 }
 
-// Kept as slices side by side, the entries agent after agent, since this is memory that the host lends. That a ledger still lends the
-// same places stands in each contract, since no type can say it of a loan.
-
-/// What postings write: an account per agent, a mark per hour, and an entry per agent and hour, agent after agent.
+/// What postings write: an account per agent, a mark per hour, 0 or 1, and an entry per agent and hour, agent after agent.
 #[derive(Drop)]
 pub struct Ledger<'l> {
     pub accounts: &'l mut [Account],
-    // Kept as bytes, since this is lent memory: it may hold any number, and one above 1 is a fault to be told.
     pub marks: &'l mut [u8],
     pub entries: &'l mut [Entry],
 }
@@ -35,7 +42,43 @@ pub struct View<'p, 'l> {
     pub entries: &'l [Entry],
 }
 
+/// Whether every agent's figures are within their limits.
+fn agents_fit(agents: &[Agent]) -> bool
+    ensures { result ≡ list_all agent_fits agents.now }
+{
+    agents.iter().all(Agent::is_within_limits)
+}
+
+/// Whether every mark is 0 or 1.
+fn marks_fit(marks: &[u8]) -> bool
+    ensures { result ≡ list_all mark_fits marks.now }
+{
+    marks.iter().all(|mark| *mark <= 1)
+}
+
+/// Whether the energies of every holding are at most so many kWh.
+fn energies_fit(most: u64, holdings: &[Entry]) -> bool
+    ensures { result ≡ list_all (energy_within most) holdings.now }
+{
+    holdings.iter().all(|holding| holding.second.injected <= most
+        && holding.second.withdrawn <= most)
+}
+
+/// The withdrawn energy of all accounts.
+fn all_withdrawn(accounts: &[Account]) -> u64
+    requires few { length accounts.now ≤ 64 }
+    requires fit { list_all (energy_within most_month_energy) accounts.now ≡ true }
+    ensures { result ≡ all_withdrawn accounts.now }
+{
+    accounts
+        .iter()
+        .map(|account| account.second.withdrawn)
+        .sum()
+}
+
 impl Ledger<'_> {
+    ghost use Rattle.book.specs.Lent.{memory_in, memory_seen};
+
     /// All memory: the ledger with the pool that it belongs to.
     pub fn view<'p, 'l>(&'l self, pool: &Pool<'p>) -> View<'p, 'l>
         ensures { memory_seen result ≡ memory_in pool.now self.now }
@@ -46,5 +89,108 @@ impl Ledger<'_> {
             marks: self.marks,
             entries: self.entries,
         }
+    }
+}
+
+impl View<'_, '_> {
+    ghost use Rattle.settlement.specs.ContractFaults.{place_fits};
+    ghost use Rattle.book.specs.Lent.{memory_seen};
+    ghost use Rattle.book.specs.Memory.{sized, stored_fits, size_fault, memory_fault};
+    ghost use Rattle.book.specs.Months.{figures_in, hours_of};
+    ghost use Rattle.book.specs.Opening.{open_fault};
+
+    /// Whether it has the size of a book of these figures.
+    fn is_sized(&self, figures: MonthFigures) -> bool
+        requires few_agents { figures.agents ≤ 64 }
+        requires few_days { figures.days ≤ 31 }
+        ensures { result ≡ sized figures (memory_seen self.now) }
+    {
+        let count = figures.agents as usize;
+        let hours = 24 * figures.days as usize;
+        self.pool.agents.len() == count
+            && self.accounts.len() == count
+            && self.pool.contracts.len() == CONTRACT_PLACES
+            && self.marks.len() == hours
+            && self.entries.len() == count * hours
+    }
+
+    /// Whether what is in each contract place may stand in a month of so many hours.
+    fn contracts_fit<F: ContractForm>(&self, form: &F, hours: u32) -> bool
+        ensures { result ≡ list_all (place_fits (F.meaning form.now) hours self.now.pool.agents.now) self.now.pool.contracts.now }
+    {
+        let admission = Admission {
+            form,
+            hours,
+            agents: self.pool.agents,
+        };
+        admission.may_all_stand(self.pool.contracts)
+    }
+
+    /// Whether all stored figures are within their limits.
+    fn is_within_limits<F: ContractForm>(&self, form: &F, month: Extent) -> bool
+        requires few { length self.now.accounts.now ≤ 64 }
+        ensures { result ≡ stored_fits (F.meaning form.now) (figures_in month) (memory_seen self.now) }
+    {
+        agents_fit(self.pool.agents)
+            && self.contracts_fit(form, month.hours())
+            && marks_fit(self.marks)
+            && energies_fit(MOST_ENERGY, self.entries)
+            && energies_fit(MOST_MONTH_ENERGY, self.accounts)
+            && all_withdrawn(self.accounts) <= MOST_MONTH_ENERGY
+    }
+
+    /// Refuses memory of another size than the month's.
+    pub(crate) fn check_size(&self, month: Extent) -> Result<(), BookFault>
+        ensures { result_err result ≡ size_fault (figures_in month) (memory_seen self.now) }
+    {
+        if !self.is_sized(month.figures()) {
+            return Err(BookFault::WrongSize);
+        }
+        Ok(())
+    }
+
+    /// Refuses memory of another size than the month's, or with a stored figure outside its limit.
+    pub(crate) fn check<F: ContractForm>(&self, form: &F, month: Extent) -> Result<(), BookFault>
+        ensures { result_err result ≡ memory_fault (F.meaning form.now) (figures_in month) (memory_seen self.now) }
+    {
+        self.check_size(month)?;
+        if !self.is_within_limits(form, month) {
+            return Err(BookFault::StoredOutside);
+        }
+        Ok(())
+    }
+
+    /// The month that can be opened with these figures, or a refusal of figures or agents outside their limits, or of memory of another size.
+    pub(crate) fn extent_of(&self, figures: MonthFigures) -> Result<Extent, BookFault>
+        ensures fault { result_err result ≡ open_fault figures (memory_seen self.now) }
+        ensures figures { IfOk result (λ month. figures_in month ≡ figures) }
+    {
+        if !figures.is_size_known() {
+            return Err(BookFault::OutsideBook);
+        }
+        if !self.is_sized(figures) {
+            return Err(BookFault::WrongSize);
+        }
+        let MonthFigures {
+            agents,
+            days,
+            weekday,
+        } = figures;
+        if weekday > 6 || !agents_fit(self.pool.agents) {
+            return Err(BookFault::OutsideBook);
+        }
+        Ok(Extent {
+            agents,
+            days,
+            weekday,
+        })
+    }
+
+    /// Refuses what an opening with these figures would refuse, and changes nothing.
+    pub fn check_opening(&self, figures: MonthFigures) -> Result<(), BookFault>
+        ensures { result_err result ≡ open_fault figures (memory_seen self.now) }
+    {
+        self.extent_of(figures)?;
+        Ok(())
     }
 }

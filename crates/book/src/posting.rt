@@ -5,9 +5,12 @@ ghost use Rattle.calendar.specs.Weekdays.{number_of};
 ghost use Rattle.settlement.specs.ContractFaults.{place_fits};
 ghost use Rattle.settlement.specs.Holdings.{entry_of};
 ghost use Rattle.settlement.specs.Pool.{pool_of, hour_of};
-ghost use Rattle.book.specs.Calls.{outcome_of, posted, packet_posted, withdrawn, entries_with, accounts_with};
 ghost use Rattle.book.specs.Lent.{memory_in, SameLoan};
 ghost use Rattle.book.specs.Months.{figures_of, hours_of};
+ghost use Rattle.book.specs.Outcomes.{outcome_of};
+ghost use Rattle.book.specs.Posting.{posted, packet_posted};
+ghost use Rattle.book.specs.Rewriting.{entries_with, accounts_with};
+ghost use Rattle.book.specs.Withdrawal.{withdrawn};
 
 use crate::memory::{Ledger, Pool};
 use crate::months::OpenMonth;
@@ -16,8 +19,6 @@ use calendar::Weekday;
 use forms::{Contract, ContractForm};
 use settlement::{Account, BookFault, Entry, Line, MeasuredPosting, PacketPosting};
 use tally::{Pair, Tally};
-
-// Kept as numbers, as the marks in lent memory are.
 
 /// The mark of an hour at which nothing stands.
 pub(crate) const FREE: u8 = 0;
@@ -48,8 +49,6 @@ fn write_posting<F: ContractForm>(
 
 /// Posts an hour: its price, and a line for each agent. The posting of an hour that is posted already corrects it. Each standing contract that covers
 /// the hour puts its legs on the parties' contract lines.
-// Kept apart: a host has the lines in memory of its own, and a packet's are read into an array, so a struct of hour, price and lines would be made at
-// each call and taken apart at once.
 pub fn post<F: ContractForm>(
     month: &OpenMonth,
     form: &F,
@@ -60,18 +59,20 @@ pub fn post<F: ContractForm>(
     ledger: &mut Ledger<'_>,
 ) -> Result<(), BookFault>
     ensures lent { SameLoan ledger.old ledger.new }
-    ensures value { outcome_of result (memory_in pool.now ledger.new) ≡ posted (F.meaning form.now) (figures_of month.now) hour price lines.now (memory_in pool.now ledger.old) }
+    ensures value { let before = memory_in pool.now ledger.old in
+        outcome_of result (memory_in pool.now ledger.new)
+        ≡ posted (F.meaning form.now) (figures_of month.now) hour price lines.now before }
 {
-    ledger.view(pool).check(form, &month.month)?;
-    let posting = month.month.check_posting(hour, price, lines, pool.agents)?;
+    let month = month.extent();
+    ledger.view(pool).check(form, month)?;
+    let posting = month.check_posting(hour, price, lines, pool.agents)?;
     posting.check_carriers()?;
     let nothing: Entry = Pair::neutral();
-    // Kept as an array, here and in `withdraw`: the library allocates nothing.
     let mut fresh = [nothing; 64];
     write_posting(
         &posting,
         form,
-        month.month.first,
+        month.calendar(),
         pool.contracts,
         &mut fresh[..lines.len()],
         ledger.accounts,
@@ -91,9 +92,11 @@ pub fn post_packet<F: ContractForm>(
     ledger: &mut Ledger<'_>,
 ) -> Result<(), BookFault>
     ensures lent { SameLoan ledger.old ledger.new }
-    ensures value { outcome_of result (memory_in pool.now ledger.new) ≡ packet_posted (F.meaning form.now) (figures_of month.now) bytes.now (memory_in pool.now ledger.old) }
+    ensures value { let before = memory_in pool.now ledger.old in
+        outcome_of result (memory_in pool.now ledger.new)
+        ≡ packet_posted (F.meaning form.now) (figures_of month.now) bytes.now before }
 {
-    ledger.view(pool).check_size(&month.month)?;
+    ledger.view(pool).check_size(month.extent())?;
     let posting = PacketPosting::read(bytes)?;
     post(
         month,
@@ -115,10 +118,13 @@ pub fn withdraw<F: ContractForm>(
     ledger: &mut Ledger<'_>,
 ) -> Result<(), BookFault>
     ensures lent { SameLoan ledger.old ledger.new }
-    ensures value { outcome_of result (memory_in pool.now ledger.new) ≡ withdrawn (F.meaning form.now) (figures_of month.now) hour (memory_in pool.now ledger.old) }
+    ensures value { let before = memory_in pool.now ledger.old in
+        outcome_of result (memory_in pool.now ledger.new)
+        ≡ withdrawn (F.meaning form.now) (figures_of month.now) hour before }
 {
-    ledger.view(pool).check(form, &month.month)?;
-    let stamp = month.month.check_hour(hour)?;
+    let month = month.extent();
+    ledger.view(pool).check(form, month)?;
+    let stamp = month.check_hour(hour)?;
     if ledger.marks[hour as usize] == FREE {
         return Err(BookFault::FreeHour(hour));
     }

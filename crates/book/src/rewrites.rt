@@ -1,8 +1,8 @@
 //! An hour written anew: entries hold the result, and accounts lose the old entry and gain the new.
 ghost use Rattle.std.specs.Prelude.{◌≡◌, ◌*◌, ◌≤◌, length, slice_index_or};
-ghost use Rattle.book.specs.Calls.{entries_with, accounts_with};
-ghost use Rattle.settlement.specs.Holdings.{no_holding, holding_joined, holding_undone};
+ghost use Rattle.settlement.specs.Holdings.{no_holding};
 ghost use Rattle.book.specs.Months.{hours_of};
+ghost use Rattle.book.specs.Rewriting.{account_with, entries_with, accounts_with};
 
 use calendar::HourStamp;
 use settlement::{Account, Entry};
@@ -10,7 +10,7 @@ use tally::update;
 
 /// Gives an entry its new value: its account loses the old one and gains the new.
 fn replace_entry(account: &mut Account, entry: &mut Entry, new: Entry)
-    ensures account { account.new ≡ holding_joined (holding_joined account.old (holding_undone entry.old)) new }
+    ensures account { account.new ≡ account_with account.old entry.old new }
     ensures entry { entry.new ≡ new }
 {
     *account = update(*account, *entry, new);
@@ -30,7 +30,6 @@ pub(crate) fn replace_hour(
     ensures entries { entries.new ≡ entries_with (hours_of stamp.days) stamp.hour (λ i. slice_index_or fresh.now i no_holding) entries.old }
     ensures accounts { accounts.new ≡ accounts_with (hours_of stamp.days) stamp.hour (λ i. slice_index_or fresh.now i no_holding) entries.old accounts.old }
 {
-    // Kept by index: accounts and entries are both written, and the entries of an hour lie a month apart, so a chain over three slices is no plainer.
     for (i, new) in fresh.iter().enumerate() {
         let at = stamp.place(i as u32);
         replace_entry(&mut accounts[i], &mut entries[at], *new);

@@ -2,7 +2,7 @@
 ghost use Rattle.std.specs.Prelude.{◌≡◌};
 ghost use Rattle.tally.specs.Peak.{no_peak};
 ghost use Rattle.settlement.specs.Holdings.{no_holding};
-ghost use Rattle.book.specs.Calls.{statement_of};
+ghost use Rattle.book.specs.Statements.{statement_of};
 
 use tally::{Energy, Money, Peak, Tally};
 

@@ -1,31 +1,34 @@
 //! What a month shows: the statement of an agent, provisional or final, and a day of it.
-ghost use Rattle.std.specs.Prelude.{◌≡◌, ◌+◌, ◌≤◌, map, length, take, drop, ◌+ℤ◌, slice_index_or};
+ghost use Rattle.std.specs.Prelude.{◌≡◌, ℕ, ◌+◌, ◌≤◌, map, length, ◌+ℤ◌, slice_index_or};
 ghost use Rattle.std.specs.List.{range_with_len};
 ghost use Rattle.std.specs.Int.{int_wrap, w64};
 ghost use Rattle.tally.specs.Peak.{peak_of};
-ghost use Rattle.tally.specs.Total.{total};
-ghost use Rattle.book.specs.Calls.{stated, day_stated, statement_of, peak_over};
-ghost use Rattle.settlement.specs.Holdings.{no_holding, holding_joined};
+ghost use Rattle.settlement.specs.Holdings.{no_holding};
+ghost use Rattle.book.specs.Days.{day_stated};
 ghost use Rattle.book.specs.Lent.{memory_seen};
 ghost use Rattle.book.specs.Months.{figures_in, figures_of, closed_figures_of};
+ghost use Rattle.book.specs.Statements.{stated, statement_of, peak_over};
 
 use crate::memory::View;
-use crate::months::{ClosedMonth, Month, OpenMonth};
+use crate::months::{ClosedMonth, Extent, OpenMonth};
 use crate::statements::Statement;
 use forms::ContractForm;
 use settlement::{Account, BookFault, Entry};
-use tally::{Money, Peak, Tally, fold, fold_day};
+use tally::{Money, Peak, Tally, fold};
+
+/// The hours of a day.
+const HOURS: usize = 24;
 
 /// The most hours of a month.
-const MOST_HOURS: usize = 744;
+const MOST_HOURS: usize = 31 * HOURS;
 
 /// Writes the peak of each hour of an agent's month to its place.
 fn fill_peaks(month: &[Entry], peaks: &mut [Peak])
     requires same { length peaks.old ≡ length month.now }
     requires few { length month.now ≤ 744 }
-    ensures { peaks.new ≡ map (λ hour. peak_of (slice_index_or month.now hour no_holding).second.withdrawn hour) (range_with_len 0 (length month.now)) }
+    ensures { let kwh = λ (hour : ℕ). (slice_index_or month.now hour no_holding).second.withdrawn in
+        peaks.new ≡ map (λ hour. peak_of (kwh hour) hour) (range_with_len 0 (length month.now)) }
 {
-    // Kept by index: in a `for` over a zip with `iter_mut` (tried) nothing is known of what was written, and `iter_mut().enumerate()` is no plainer, since it reads the month by index.
     for (hour, entry) in month.iter().enumerate() {
         peaks[hour] = Peak::of(entry.second.withdrawn, hour as u32);
     }
@@ -37,7 +40,6 @@ fn month_peak(entries: &[Entry], first: usize, hours: usize) -> Peak
     requires few { hours ≤ 744 }
     ensures { result ≡ peak_over hours (λ hour. slice_index_or entries.now (first + hour) no_holding) }
 {
-    // Kept as an array: the library allocates nothing, and the one fold takes a slice.
     let mut peaks = [Peak::neutral(); MOST_HOURS];
     let peaks = &mut peaks[..hours];
     fill_peaks(&entries[first..first + hours], peaks);
@@ -71,18 +73,17 @@ fn statement(account: Account, peak: Peak) -> Statement
 
 /// The statement of an agent, counted from 1, in a month that is open or closed.
 fn statement_in<F: ContractForm>(
-    month: &Month,
+    month: Extent,
     form: &F,
     agent: u32,
     view: &View<'_, '_>,
 ) -> Result<Statement, BookFault>
-    ensures { result ≡ stated (F.meaning form.now) (figures_in month.now) agent (memory_seen view.now) }
+    ensures { result ≡ stated (F.meaning form.now) (figures_in month) agent (memory_seen view.now) }
 {
     view.check(form, month)?;
     if agent == 0 || agent > month.agents {
         return Err(BookFault::OutsideBook);
     }
-    // Kept as places worked by number, here and in `day_total`: in lent memory the entries lie agent after agent.
     let index = (agent - 1) as usize;
     let hours = month.hours() as usize;
     let peak = month_peak(view.entries, index * hours, hours);
@@ -98,19 +99,19 @@ pub fn provisional<F: ContractForm>(
 ) -> Result<Statement, BookFault>
     ensures { result ≡ stated (F.meaning form.now) (figures_of month.now) agent (memory_seen view.now) }
 {
-    statement_in(&month.month, form, agent, view)
+    statement_in(month.extent(), form, agent, view)
 }
 
 /// The final statement of an agent of a closed month, counted from 1.
 pub fn final_statement<F: ContractForm>(
-    month: &ClosedMonth,
+    closed: &ClosedMonth,
     form: &F,
     agent: u32,
     view: &View<'_, '_>,
 ) -> Result<Statement, BookFault>
-    ensures { result ≡ stated (F.meaning form.now) (closed_figures_of month.now) agent (memory_seen view.now) }
+    ensures { result ≡ stated (F.meaning form.now) (closed_figures_of closed.now) agent (memory_seen view.now) }
 {
-    statement_in(&month.month, form, agent, view)
+    statement_in(closed.extent(), form, agent, view)
 }
 
 /// The total of an agent's day, both counted from 1: the twenty-four entries from its first hour on, folded.
@@ -123,11 +124,12 @@ pub fn day_total<F: ContractForm>(
 ) -> Result<Entry, BookFault>
     ensures { result ≡ day_stated (F.meaning form.now) (figures_of month.now) agent day (memory_seen view.now) }
 {
-    view.check(form, &month.month)?;
-    let Month { agents, days, .. } = month.month;
-    if agent == 0 || agent > agents || day == 0 || day > days {
+    let month = month.extent();
+    view.check(form, month)?;
+    if agent == 0 || agent > month.agents || day == 0 || day > month.days {
         return Err(BookFault::OutsideBook);
     }
-    let days_before = (agent - 1) as usize * days as usize + (day - 1) as usize;
-    Ok(fold_day(view.entries, days_before))
+    let hours = month.hours() as usize;
+    let first = (agent - 1) as usize * hours + HOURS * (day - 1) as usize;
+    Ok(fold(&view.entries[first..first + HOURS]))
 }

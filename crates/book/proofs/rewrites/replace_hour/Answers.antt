@@ -1,7 +1,7 @@
 use Rattle.std.proofs.Common.{◌≡◌, ℕ, ◌+◌, ◌<◌, length, get_or, set, sym, ap, ◌∙◌, subst, arith}
 use Rattle.std.proofs.lemmas.List.{get_or_read}
-use Rattle.book.specs.Calls.{entry_place}
-use Rattle.settlement.specs.Holdings.{Holding, no_holding, holding_joined, holding_undone}
+use Rattle.book.specs.Rewriting.{entry_place, account_with}
+use Rattle.settlement.specs.Holdings.{Holding, no_holding}
 use Rattle.book.specs.Months.{hours_of}
 use Rattle.book.proofs.Columns.{place_within, Rewritten, Settled, account_after, rewritten_more, rewritten_old, rewritten_all, settled_more, settled_old, settled_all}
 use Rattle.book.proofs.rewrites.replace_hour.Goals as goal
@@ -39,7 +39,7 @@ loop-i-preserved c =
     ∙ settled_old hours hour stamp.within fresh before old i c.loop-i.accounts here c.loop-i.invariant.1 in
     let updated : c.replace_entry.new.account ≡ account_after hours hour stamp.within fresh before old i =
     c.replace_entry.ensures.account
-    ∙ (λ k. holding_joined (holding_joined ((sym c.index-accounts-i.is ∙ account_is) k) (holding_undone ((sym c.index-entries-at.is ∙ old_is) k))) (new_is k)) in (
+    ∙ (λ k. account_with ((sym c.index-accounts-i.is ∙ account_is) k) ((sym c.index-entries-at.is ∙ old_is) k) (new_is k)) in (
       subst (λ (x : ℕ × Holding). Rewritten hours hour stamp.within fresh before (i + 1) (set c.loop-i.entries x.0 x.1)) (λ k. (sym c.place-at.ensures k, sym (c.replace_entry.ensures.entry ∙ new_is) k))
           (rewritten_more hours hour stamp.within fresh before i c.loop-i.entries c.loop-i.auto.entries at c.loop-i.invariant.0),
       subst (λ x. Settled hours hour stamp.within fresh before old (i + 1) (set c.loop-i.accounts i x)) (sym updated)

@@ -1,31 +1,49 @@
-use Rattle.std.proofs.Common.{◌≡◌, true, ◌||◌, eqb, ltb, [], ◌∷◌, ap}
-use Rattle.std.proofs.lemmas.Bool.{or_left, or_right, eq-eqb, lt-ltb}
-use Rattle.settlement.specs.declared.faults.BookFault.TheVariants.{OutsideBook}
-use Rattle.settlement.specs.Faults.{first_met, met_if}
+use Rattle.std.proofs.Common.{◌≡◌, ◌+◌, ◌-◌, ◌*◌, ◌<◌, ◌≤◌, false, ◌||◌, eqb, ltb, Ok, length, take, drop, refl, sym, ap, ◌∙◌, arith, rules}
 use Rattle.std.proofs.lemmas.Result.{err_from_is_err_and}
+use Rattle.std.proofs.lemmas.Bool.Decides.{nat_tests}
+use Rattle.tally.specs.Total.{total}
+use Rattle.settlement.specs.declared.faults.BookFault.TheVariants.{OutsideBook}
+use Rattle.settlement.specs.Faults.{answer_of, met_if}
+use Rattle.settlement.specs.Holdings.{no_holding, holding_joined}
+use Rattle.book.specs.Days.{day_sum, day_stated}
 use Rattle.book.specs.Lent.{memory_seen}
-use Rattle.book.specs.Months.{figures_of}
-use Rattle.book.proofs.Tables.{look_refused, look_refused_later}
+use Rattle.book.specs.Memory.{memory_fault}
+use Rattle.book.specs.Months.{figures_in, hours_of}
+use Rattle.book.proofs.Columns.{day_within}
+use Rattle.book.proofs.Tables.{checked, next_row, this_row}
 use Rattle.book.proofs.views.day_total.Goals as goal
-use Rattle.book.proofs.views.day_total.Goals.{then-agent-eq0-via-then-agent-eq0, then-agent-eq0-via-else-agent-eq0+then-agent-agents, then-agent-eq0-via-else-agent-eq0+else-agent-agents+then-day-eq0, then-agent-eq0-via-else-agent-eq0+else-agent-agents+else-day-eq0+then-day-days}
+
+pub slice_bounds-fold-end : goal.slice_bounds-fold-end
+slice_bounds-fold-end g c =
+    let month = c.extent-month.result in
+    let hours = c.hours-hours.result in
+    let i = c.args.agent - 1 in
+    let day = c.args.day - 1 in
+    let known = checked (g.F.ContractForm.meaning c.args.form.now) (figures_in month) (memory_seen c.args.view.now) c.in_ok-check.ensures in
+    let agent_below : i < month.agents = omega arith in
+    let day_below : day < month.days = omega arith in
+    let within : i * hours + 24 * day + 24 ≤ length c.args.view.now.entries.now =
+    omega (arith, day_within hours month.days month.agents i day c.hours-hours.ensures agent_below day_below, known.sizes.entries_long ∙ ap (λ h. month.agents * h) (sym c.hours-hours.ensures)) in
+    search rules
 
 pub returns-in_err-check : goal.returns-in_err-check
 returns-in_err-check g c =
     let form = g.F.ContractForm.meaning c.args.form.now in
-    let f = figures_of c.args.month.now in
     let m = memory_seen c.args.view.now in
     let p = err_from_is_err_and c.from_residual.result c.from_residual.ensures.1 in
-    rw (p.1, p.2) (look_refused form f m _ _ _ c.in_err-check.ensures)
+    rw (p.1, p.2) (sym (ap (answer_of _) (this_row _ _ _ (c.in_err-check.ensures ∙ (λ t. memory_fault form (c.extent-month.ensures t) m)))))
 
-pub returns-then-agent-eq0 : goal.returns-then-agent-eq0
-returns-then-agent-eq0 g c =
+pub returns : goal.returns
+returns g c =
     let form = g.F.ContractForm.meaning c.args.form.now in
-    let f = figures_of c.args.month.now in
-    let outside : ((eqb c.args.agent 0 || ltb f.agents c.args.agent) || (eqb c.args.day 0 || ltb f.days c.args.day)) ≡ true =
-    elim c.then-agent-eq0.branch [
-      | then-agent-eq0-via-then-agent-eq0 w ↦ or_left _ _ (or_left (eqb c.args.agent 0) (ltb f.agents c.args.agent) (eq-eqb _ 0 w.if-agent-eq0.true))
-      | then-agent-eq0-via-else-agent-eq0+then-agent-agents w ↦ or_left _ _ (or_right (eqb c.args.agent 0) (ltb f.agents c.args.agent) (lt-ltb _ _ w.if-agent-agents.true))
-      | then-agent-eq0-via-else-agent-eq0+else-agent-agents+then-day-eq0 w ↦ or_right _ _ (or_left (eqb c.args.day 0) (ltb f.days c.args.day) (eq-eqb _ 0 w.if-day-eq0.true))
-      | then-agent-eq0-via-else-agent-eq0+else-agent-agents+else-day-eq0+then-day-days w ↦ or_right _ _ (or_right (eqb c.args.day 0) (ltb f.days c.args.day) (lt-ltb _ _ w.if-day-days.true))
-    ] in
-    look_refused_later form f (memory_seen c.args.view.now) _ _ OutsideBook c.in_ok-check.ensures (ap (λ b. first_met (met_if b OutsideBook ∷ [])) outside)
+    let m = memory_seen c.args.view.now in
+    let month = c.extent-month.result in
+    let agent = c.args.agent in
+    let day = c.args.day in
+    let first = (agent - 1) * c.hours-hours.result + 24 * (day - 1) in
+    let long : first + 24 - first ≡ 24 = omega arith in
+    let sum = c.fold.ensures ∙ (λ t. total no_holding holding_joined (take (long t) (drop ((agent - 1) * c.hours-hours.ensures t + 24 * (day - 1)) m.entries))) in
+    let inside : false ≡ ((eqb agent 0 || ltb month.agents agent) || (eqb day 0 || ltb month.days day)) = grind (arith, nat_tests) in
+    ap Ok sum
+    ∙ sym (ap (answer_of (day_sum (hours_of month.days) (agent - 1) (day - 1) m.entries)) (next_row _ _ _ c.in_ok-check.ensures (next_row _ _ _ (ap (λ b. met_if b OutsideBook) inside) refl)))
+    ∙ ap (λ f. day_stated form f agent day m) c.extent-month.ensures

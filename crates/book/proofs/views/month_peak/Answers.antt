@@ -2,7 +2,7 @@ use Rattle.std.proofs.Common.{◌≡◌, ℕ, ◌+◌, ◌-◌, List, length, ge
 use Rattle.std.proofs.lemmas.List.{get_or-take, get_or-drop, length-take, length-drop}
 use Rattle.tally.specs.Total.{total}
 use Rattle.tally.specs.Peak.{peak_of, no_peak, peak_joined}
-use Rattle.book.specs.Calls.{peak_over}
+use Rattle.book.specs.Statements.{peak_over}
 use Rattle.settlement.specs.Holdings.{Holding, no_holding}
 use Rattle.settlement.proofs.Sums.{map_counting_same}
 use Rattle.book.proofs.views.month_peak.Goals as goal

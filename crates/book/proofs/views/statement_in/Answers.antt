@@ -7,9 +7,8 @@ use Rattle.book.proofs.views.statement_in.Goals as goal
 
 pub month_peak-peak-requires-clause-within : goal.month_peak-peak-requires-clause-within
 month_peak-peak-requires-clause-within g c =
-    let form = g.F.ContractForm.meaning c.args.form.now in
-    let f = figures_in c.args.month.now in
-    let m = memory_seen c.args.view.now in
+    let f = figures_in c.args.month in
+    let known = checked (g.F.ContractForm.meaning c.args.form.now) f (memory_seen c.args.view.now) c.in_ok-check.ensures in
     let i = c.args.agent - 1 in
     let inside : i < f.agents = omega arith in
-    omega (arith, (checked form f m c.in_ok-check.ensures).entries_long, month_within (hours_of f.days) f.agents i inside, c.hours-hours.ensures, ap (λ hours. i * hours) c.hours-hours.ensures)
+    omega (arith, known.sizes.entries_long, month_within (hours_of f.days) f.agents i inside, c.hours-hours.ensures, ap (λ hours. i * hours) c.hours-hours.ensures)

@@ -1,0 +1,30 @@
+-- Opening a month. Assumes nothing.
+use Rattle.std.specs.Prelude.{not, ◌||◌, [], ◌∷◌, length, replicate, None, Option, nat_lt}
+use Rattle.std.specs.List.{list_all}
+use Rattle.settlement.specs.declared.faults.BookFault.{BookFault}
+use Rattle.settlement.specs.declared.faults.BookFault.TheVariants.{OutsideBook}
+use Rattle.settlement.specs.Agents.{agent_fits}
+use Rattle.settlement.specs.Faults.{met_if, first_met}
+use Rattle.settlement.specs.Holdings.{no_holding}
+use Rattle.book.specs.declared.months.MonthFigures.{MonthFigures}
+use Rattle.book.specs.Memory.{Memory, size_fault}
+use Rattle.book.specs.Months.{size_known}
+use Rattle.book.specs.Outcomes.{Outcome, outcome}
+
+-- the faults of an opening: agents or days, then the memory's size, then the weekday or an agent's figures
+abbrev pub open_fault : MonthFigures → Memory → Option BookFault
+open_fault f m =
+    first_met (met_if (not (size_known f)) OutsideBook ∷ size_fault f m
+    ∷ met_if (nat_lt 6 f.weekday || not (list_all agent_fits m.agents)) OutsideBook ∷ [])
+
+-- all lines, energies, marks and contract places empty
+abbrev pub emptied : Memory → Memory
+emptied m = record m {
+  accounts = replicate (length m.accounts) no_holding;
+  contracts = replicate (length m.contracts) None;
+  marks = replicate (length m.marks) 0;
+  entries = replicate (length m.entries) no_holding;
+}
+
+abbrev pub opened : MonthFigures → Memory → Outcome MonthFigures
+opened f m = outcome (open_fault f m) f m (emptied m)

@@ -1,0 +1,24 @@
+-- Withdrawing the posting of an hour. Assumes nothing.
+use Rattle.std.specs.Prelude.{ℕ, [], ◌∷◌, Option, ◌==◌, slice_index}
+use Rattle.forms.specs.Meaning.{Meaning}
+use Rattle.settlement.specs.declared.faults.BookFault.{BookFault}
+use Rattle.settlement.specs.declared.faults.BookFault.TheVariants.{FreeHour}
+use Rattle.settlement.specs.Faults.{met_if, first_met, of_posting}
+use Rattle.settlement.specs.Holdings.{no_holding}
+use Rattle.settlement.specs.PostingFaults.{hour_fault}
+use Rattle.book.specs.declared.months.MonthFigures.{MonthFigures}
+use Rattle.book.specs.Memory.{Memory, memory_fault}
+use Rattle.book.specs.Months.{hours_of}
+use Rattle.book.specs.Outcomes.{Outcome, outcome}
+use Rattle.book.specs.Rewriting.{rewritten}
+
+-- the faults of a withdrawal: at last, that the hour is free
+abbrev pub withdraw_fault : Meaning → MonthFigures → (hour : ℕ) → Memory → Option BookFault
+withdraw_fault form f hour m =
+    first_met (memory_fault form f m ∷ of_posting (hour_fault (hours_of f.days) hour)
+    ∷ met_if (slice_index m.marks hour == 0) (FreeHour hour) ∷ [])
+
+-- a withdrawal leaves neutral entries
+abbrev pub withdrawn : Meaning → MonthFigures → (hour : ℕ) → Memory → Outcome (Unit {0})
+withdrawn form f hour m =
+    outcome (withdraw_fault form f hour m) tt m (rewritten (hours_of f.days) hour 0 (λ i. no_holding) m)
