@@ -2,8 +2,8 @@
 use Rattle.std.specs.Prelude.{ℕ, Bool, true, false, if◌then◌else◌, ◌==◌}
 use Rattle.std.proofs.Common.{arith}
 use Rattle.forms.specs.MarketLegs.{market_balanced}
-use Rattle.forms.specs.Known.{injected_le, withdrawn_among}
-use Rattle.forms.specs.Quantities.{quantity_in_le, share_buyer, shared_energy_le}
+use Rattle.forms.specs.Known.{injected_le}
+use Rattle.forms.specs.Quantities.{quantity_in_le, share_among, shared_energy_le}
 use Rattle.forms.specs.Kinds.{block, share}
 use Rattle.forms.specs.Layers.{Rule, NeverRaises, less_margin, up_to_capacity, layered, by_kind, capped, lowered, product_meaning}
 use Rattle.forms.specs.Meaning.{Meaning, Keeps}
@@ -18,7 +18,7 @@ block_keeps = record {
 pub share_keeps : Keeps share
 share_keeps = record {
   quantity = λ terms parties facts asked.
-      shared_energy_le facts (injected_le parties facts asked.measured) (withdrawn_among parties facts asked.measured (share_buyer terms parties asked.taken));
+      shared_energy_le facts (injected_le parties facts asked.measured) (share_among terms parties facts asked.taken asked.measured);
   legs = λ terms parties facts. market_balanced terms parties facts;
 }
 

@@ -21,7 +21,7 @@ withdrawn_fits parties facts =
     else nat_le (facts.withdrawn + facts.distributors_withdrawn) most_energy
 
 -- The facts can be those of an accepted posting: the test, and that it is true.
-abbrev pub measured_facts : Parties → Facts → Bool
+unfoldable pub measured_facts : Parties → Facts → Bool
 measured_facts parties facts = prices_fit facts && (nat_le facts.injected most_energy && withdrawn_fits parties facts)
 
 abbrev pub Measured : Parties → Facts → Type 0

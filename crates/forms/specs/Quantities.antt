@@ -6,8 +6,9 @@ use Rattle.std.proofs.lemmas.Bool.{cond_both}
 use Rattle.std.proofs.lemmas.Bool.Decides.{nat_tests}
 use Rattle.calendar.specs.declared.bands.Band.{Band}
 use Rattle.calendar.specs.declared.bands.Band.TheVariants.{Peak, Medium, Base}
-use Rattle.forms.specs.Known.{peak_le, medium_le, base_le}
+use Rattle.forms.specs.Known.{peak_le, medium_le, base_le, withdrawn_among}
 use Rattle.forms.specs.Kinds.{quantity_in, share_takes, shared_energy}
+use Rattle.forms.specs.Measured.{Measured}
 use Rattle.forms.specs.Roles.{distributes, has_role}
 use Rattle.forms.specs.Terms.{Valid}
 use Rattle.forms.specs.declared.Contract.{Contract}
@@ -25,9 +26,13 @@ quantity_in_le Base = base_le
 share_le : (injected withdrawn all : ℕ) → withdrawn ≤ all → injected * withdrawn / all ≤ injected
 share_le injected withdrawn all among = div-le_of_le-mul all (omega (arith, mul-le-mul_left injected among, mul_comm injected all))
 
--- a share's buyer is a distributor
-pub share_buyer : (terms : Contract) (parties : Parties) → IsTrue (share_takes terms parties) → has_role distributes parties.buyer.role ≡ true
+-- a share's buyer is a distributor, whose withdrawn energy is among that of all distributors
+share_buyer : (terms : Contract) (parties : Parties) → IsTrue (share_takes terms parties) → has_role distributes parties.buyer.role ≡ true
 share_buyer terms parties taken = grind (arith, nat_tests)
+
+pub share_among : (terms : Contract) (parties : Parties) (facts : Facts) → IsTrue (share_takes terms parties) → Measured parties facts →
+    facts.withdrawn ≤ facts.distributors_withdrawn
+share_among terms parties facts taken measured = withdrawn_among parties facts measured (share_buyer terms parties taken)
 
 -- a share of what a generator injects
 pub shared_energy_le : (facts : Facts) → facts.injected ≤ most_energy → facts.withdrawn ≤ facts.distributors_withdrawn → shared_energy facts ≤ most_energy

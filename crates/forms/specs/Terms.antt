@@ -41,7 +41,7 @@ figures_fit terms =
     && (nat_le terms.base most_energy && nat_le terms.margin most_energy)))
 
 -- The terms, between these parties, can stand in some book: the test, and that it is true.
-abbrev pub valid_terms : Contract → Parties → Bool
+unfoldable pub valid_terms : Contract → Parties → Bool
 valid_terms terms parties = parties_fit terms parties && (hours_fit most_hours terms && figures_fit terms)
 
 abbrev pub Valid : Contract → Parties → Type 0

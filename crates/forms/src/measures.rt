@@ -31,6 +31,7 @@ fn does_withdrawn_fit(parties: Parties, facts: Facts) -> bool
 }
 
 /// Whether these can be the facts of an accepted posting, for a contract between these parties.
+#[tactic(auto, unfolding(crate::specs::Measured::measured_facts))]
 pub fn is_measured(parties: Parties, facts: Facts) -> bool
     ensures { result ≡ measured_facts parties facts }
 {

@@ -60,6 +60,7 @@ pub fn do_figures_fit(terms: Contract) -> bool
 }
 
 /// Whether these terms, between these parties, can stand in some book: its month and its agents are for the book to compare.
+#[tactic(auto, unfolding(crate::specs::Terms::valid_terms))]
 pub fn is_valid(terms: Contract, parties: Parties) -> bool
     ensures { result ≡ valid_terms terms parties }
 {

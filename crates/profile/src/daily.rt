@@ -13,7 +13,6 @@ use valuation::cost_amount;
 pub struct DailyProfile;
 
 /// The kind of a daily profile.
-// Kept as a number by the rule that kinds are open.
 pub const PROFILE_KIND: u32 = 3;
 
 /// What is left of a base quantity in a band.
@@ -40,6 +39,7 @@ impl ContractForm for DailyProfile {
         profiled_quantity(hour.facts.band, hour.terms.base)
     }
 
+    #[tactic(auto, using(forms::specs::Known::contract_price_le))]
     fn legs(&self, hour: ContractHour, quantity: u32) -> Legs {
         let cost = cost_amount(quantity, hour.terms.price) as i64;
         Legs {
