@@ -1,5 +1,6 @@
 -- The lines of money as whole numbers: what is owed to an agent is above 0, what it owes below. Assumes nothing.
-use Rattle.std.specs.Prelude.{ℕ, ◌≤◌, ℤ, pos, ◌+ℤ◌, neg_ℤ, nat_abs}
+use Rattle.std.specs.Prelude.{ℕ, ◌≤◌, ℤ, pos, ◌+ℤ◌, neg_ℤ, nat_abs, FitsSigned}
+use Rattle.std.specs.Int.{w64}
 use Rattle.tally.specs.declared.money.MoneyLine.{MoneyLine}
 use Rattle.tally.specs.declared.money.MoneyLine.TheVariants.{Market, Contract, Overcost, Power}
 
@@ -46,3 +47,7 @@ balance_of x = x.market +ℤ x.contract +ℤ x.overcost +ℤ x.power
 -- each line is at most so large, owed either way
 abbrev pub LinesWithin : (most : ℕ) → Lines → Type 0
 LinesWithin most x = (line : MoneyLine) → nat_abs (line_on line x) ≤ most
+
+-- each line fits 64 bits
+abbrev pub LinesFit : Lines → Type 0
+LinesFit x = (line : MoneyLine) → FitsSigned w64 (line_on line x)
