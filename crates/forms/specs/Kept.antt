@@ -1,24 +1,102 @@
--- What forms keep, the forms made of them keep. Assumes nothing.
-use Rattle.std.specs.Prelude.{ℕ, Bool, true, false, if◌then◌else◌, ◌==◌}
-use Rattle.std.proofs.Common.{arith}
-use Rattle.forms.specs.MarketLegs.{market_balanced}
-use Rattle.forms.specs.Known.{injected_le}
-use Rattle.forms.specs.Quantities.{quantity_in_le, share_among, shared_energy_le}
-use Rattle.forms.specs.Kinds.{block, share}
+-- What forms keep: quantities within their limit, and legs within theirs that cancel. Assumes nothing.
+use Rattle.std.specs.Prelude.{◌≡◌, ℕ, ◌*◌, ◌/◌, ◌≤◌, Bool, true, false, IsTrue, if◌then◌else◌, ◌==◌, [], ◌∷◌, ℤ, pos, ◌+ℤ◌, nat_abs}
+use Rattle.std.proofs.Math.Nat.{div-le_of_le-mul}
+use Rattle.std.proofs.Common.{mul_comm, mul-le-mul_left, arith}
+use Rattle.std.proofs.lemmas.Bool.{cond_both}
+use Rattle.std.proofs.lemmas.Bool.Decides.{nat_tests}
+use Rattle.std.proofs.lemmas.Int.{ints}
+use Rattle.std.proofs.lemmas.List.Elements.{All-nil, All-cons}
+use Rattle.calendar.specs.declared.bands.Band.{Band}
+use Rattle.calendar.specs.declared.bands.Band.TheVariants.{Peak, Medium, Base}
+use Rattle.forms.specs.Kinds.{quantity_in, block, share_takes, shared_energy, share}
+use Rattle.forms.specs.Known.{figures_known, contract_price_le, prices_known, price_le, injected_le, withdrawn_among}
 use Rattle.forms.specs.Layers.{Rule, NeverRaises, less_margin, up_to_capacity, layered, by_kind, capped, lowered, product_meaning}
-use Rattle.forms.specs.Meaning.{Meaning, Keeps}
+use Rattle.forms.specs.Limits.{most_leg}
+use Rattle.forms.specs.Market.{factor_at, value_of, cost_of, market_legs}
+use Rattle.forms.specs.Meaning.{Meaning, Askable, Balanced, Keeps}
+use Rattle.forms.specs.Measured.{prices_fit, Measured}
+use Rattle.forms.specs.Terms.{figures_fit}
+use Rattle.forms.specs.declared.Contract.{Contract}
+use Rattle.forms.specs.declared.Delivery.{Delivery}
+use Rattle.forms.specs.declared.Delivery.TheVariants.{MarketBar, SellerNode, BuyerNode}
+use Rattle.forms.specs.declared.Facts.{Facts}
+use Rattle.forms.specs.declared.Legs.{Legs}
+use Rattle.forms.specs.declared.Parties.{Parties}
+use Rattle.valuation.proofs.Amounts.{amount_of_le, cost_amount_of_le}
+use Rattle.valuation.specs.Limits.{most_energy, most_factor, most_amount, most_cost_amount}
+
+-- ---- quantities
+
+-- a band's quantity
+pub quantity_in_le : (band : Band) (terms : Contract) → IsTrue (figures_fit terms) → quantity_in band terms ≤ most_energy
+quantity_in_le Peak terms figures = grind (arith, nat_tests)
+quantity_in_le Medium terms figures = grind (arith, nat_tests)
+quantity_in_le Base terms figures = grind (arith, nat_tests)
+
+-- a share's buyer is a distributor, whose withdrawn energy is among that of all distributors
+pub share_among : (terms : Contract) (parties : Parties) (facts : Facts) → IsTrue (share_takes terms parties) →
+    Measured parties facts → facts.withdrawn ≤ facts.distributors_withdrawn
+share_among terms parties facts taken measured = withdrawn_among parties facts measured (grind (arith, nat_tests))
+
+-- a share of the injected energy is at most all of it
+share_le : (injected withdrawn all : ℕ) → withdrawn ≤ all → injected * withdrawn / all ≤ injected
+share_le injected withdrawn all among =
+    div-le_of_le-mul all (omega (arith, mul-le-mul_left injected among, mul_comm injected all))
+
+pub shared_energy_le : (facts : Facts) → facts.injected ≤ most_energy → facts.withdrawn ≤ facts.distributors_withdrawn →
+    shared_energy facts ≤ most_energy
+shared_energy_le facts injected among =
+    cond_both (facts.distributors_withdrawn == 0) _ _ (λ x. x ≤ most_energy) (λ _. omega arith)
+    (λ _. omega (arith, share_le facts.injected facts.withdrawn facts.distributors_withdrawn among))
+
+-- ---- legs
+
+-- legs are balanced that are each within the limit and cancel
+abbrev Within : ℤ → Type 0
+Within points = nat_abs points ≤ most_leg
+
+pub two_balanced : (legs : Legs) → nat_abs legs.seller ≤ most_leg → nat_abs legs.buyer ≤ most_leg →
+    legs.seller +ℤ legs.buyer ≡ pos 0 → Balanced legs
+two_balanced legs seller buyer cancel = record {
+  within = All-cons Within legs.seller (legs.buyer ∷ []) seller (All-cons Within legs.buyer [] buyer (All-nil Within));
+  cancel = omega (arith, ints);
+}
+
+-- the factor at each place
+pub factor_le : (delivery : Delivery) (parties : Parties) (facts : Facts) → Measured parties facts →
+    factor_at delivery facts ≤ most_factor
+factor_le delivery parties facts measured = at delivery (prices_known parties facts measured)
+  where
+    at : (place : Delivery) → IsTrue (prices_fit facts) → factor_at place facts ≤ most_factor
+    at MarketBar prices = omega arith
+    at SellerNode prices = grind (arith, nat_tests)
+    at BuyerNode prices = grind (arith, nat_tests)
+
+-- the legs of a contract for differences, under terms and facts by which they may be asked for
+pub market_balanced : {taken : Bool} (terms : Contract) (parties : Parties) (facts : Facts) (quantity : ℕ) →
+    Askable taken terms parties facts → quantity ≤ most_energy → Balanced (market_legs terms facts quantity)
+market_balanced terms parties facts quantity asked within =
+    let factor = factor_le terms.delivery parties facts asked.measured in
+    let value : value_of terms facts quantity ≤ most_amount =
+    amount_of_le quantity _ facts.price within factor (price_le parties facts asked.measured) in
+    let cost : cost_of terms quantity ≤ most_cost_amount =
+    cost_amount_of_le quantity terms.price within (contract_price_le terms parties asked.valid) in
+    two_balanced (market_legs terms facts quantity) (omega (arith, ints)) (omega (arith, ints)) (omega (arith, ints))
+
+-- ---- forms
 
 -- the two kinds
 pub block_keeps : Keeps block
 block_keeps = record {
-  quantity = λ terms parties facts asked. quantity_in_le facts.band terms parties asked.valid;
+  quantity = λ terms parties facts asked. quantity_in_le facts.band terms (figures_known terms parties asked.valid);
   legs = λ terms parties facts. market_balanced terms parties facts;
 }
 
 pub share_keeps : Keeps share
 share_keeps = record {
   quantity = λ terms parties facts asked.
-      shared_energy_le facts (injected_le parties facts asked.measured) (share_among terms parties facts asked.taken asked.measured);
+      shared_energy_le facts (injected_le parties facts asked.measured)
+      (share_among terms parties facts asked.taken asked.measured);
   legs = λ terms parties facts. market_balanced terms parties facts;
 }
 
@@ -26,18 +104,14 @@ share_keeps = record {
 pub layered_keeps : {rule : Rule} → NeverRaises rule → {form : Meaning} → Keeps form → Keeps (layered rule form)
 layered_keeps {rule} lowers {form} keeps = record {
   quantity = λ terms parties facts asked.
-      omega (arith, lowers terms parties (form.quantity terms parties facts), keeps.quantity terms parties facts asked);
+      let lowered_le = lowers terms parties (form.quantity terms parties facts) in
+      omega (arith, keeps.quantity terms parties facts asked);
   legs = keeps.legs;
 }
 
-pub lowered_keeps : {form : Meaning} → Keeps form → Keeps (lowered form)
-lowered_keeps keeps = layered_keeps {rule = less_margin} (λ terms parties quantity. omega arith) keeps
-
-pub capped_keeps : {form : Meaning} → Keeps form → Keeps (capped form)
-capped_keeps keeps = layered_keeps {rule = up_to_capacity} (λ terms parties quantity. omega arith) keeps
-
 -- two forms as one
-either_keeps : (test : Bool) {first second : Meaning} → Keeps first → Keeps second → Keeps (if test then first else second)
+either_keeps : (test : Bool) {first second : Meaning} → Keeps first → Keeps second →
+    Keeps (if test then first else second)
 either_keeps true first second = first
 either_keeps false first second = second
 
@@ -48,5 +122,11 @@ by_kind_keeps kind first second = record {
 }
 
 -- the product
+capped_keeps : {form : Meaning} → Keeps form → Keeps (capped form)
+capped_keeps keeps = layered_keeps {rule = up_to_capacity} (λ terms parties quantity. omega arith) keeps
+
+lowered_keeps : {form : Meaning} → Keeps form → Keeps (lowered form)
+lowered_keeps keeps = layered_keeps {rule = less_margin} (λ terms parties quantity. omega arith) keeps
+
 pub product_keeps : Keeps product_meaning
 product_keeps = by_kind_keeps 1 (capped_keeps block_keeps) (capped_keeps (lowered_keeps share_keeps))

@@ -8,6 +8,4 @@ pub mod Market
 pub mod Kinds
 pub mod Layers
 pub mod Known
-pub mod MarketLegs
-pub mod Quantities
 pub mod Kept

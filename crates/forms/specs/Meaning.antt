@@ -1,5 +1,5 @@
 -- What a contract form means, what it keeps, and when two forms are alike. Assumes nothing.
-use Rattle.std.specs.Prelude.{◌≡◌, ℕ, ◌≤◌, Bool, true, IsTrue, pos, nat_abs, All}
+use Rattle.std.specs.Prelude.{◌≡◌, ℕ, ◌≤◌, Bool, IsTrue, pos, nat_abs, All}
 use Rattle.std.specs.List.{list_all}
 use Rattle.forms.specs.Limits.{most_leg}
 use Rattle.forms.specs.Measured.{Measured}

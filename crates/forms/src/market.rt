@@ -23,7 +23,7 @@ fn factor_at(delivery: Delivery, facts: Facts) -> u32
 
 /// The legs of a contract for differences: the seller gets the energy's cost at the contract's price and gives its value at the
 /// place of delivery; the buyer the other way round.
-#[tactic(auto, using(crate::specs::MarketLegs::factor_le, crate::specs::Known::price_le, crate::specs::Known::contract_price_le))]
+#[tactic(auto, using(crate::specs::Kept::factor_le, crate::specs::Known::price_le, crate::specs::Known::contract_price_le))]
 pub fn market_legs(hour: ContractHour, quantity: u32) -> Legs
     requires { quantity ≤ most_energy }
     ensures { result ≡ market_legs hour.terms hour.facts quantity }

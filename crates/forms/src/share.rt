@@ -44,7 +44,7 @@ impl ContractForm for Share {
             && Role::named(parties.buyer.role).is_some_and(Role::is_distributor)
     }
 
-    #[tactic(auto, using(crate::specs::Known::injected_le, crate::specs::Quantities::share_among))]
+    #[tactic(auto, using(crate::specs::Known::injected_le, crate::specs::Kept::share_among))]
     fn quantity(&self, hour: ContractHour) -> u32 {
         shared_energy(hour.facts)
     }
