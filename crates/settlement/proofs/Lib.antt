@@ -1,5 +1,5 @@
 pub mod Checks
-pub mod Measured
+pub mod PostingFits
 pub mod Sums
 pub mod Differences
 pub mod Sharing

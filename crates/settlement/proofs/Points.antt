@@ -3,14 +3,16 @@ use Rattle.std.proofs.Common.{◌≡◌, ℕ, ◌+◌, ◌-◌, ◌<◌, ◌≤�
 use lib.IntN.{+ℤ_idl, +ℤ_idr, +ℤ_assoc}
 use Rattle.std.proofs.lemmas.List.{get_or-set_same, get_or-set_other, take_more}
 use Rattle.std.proofs.lemmas.Bool.{cases_eq, cond-true, cond-false, eq-eqb, ne_eqb}
+use Rattle.tally.specs.declared.money.MoneyLine.TheVariants.{Contract}
+use Rattle.tally.specs.Lines.{alone}
 use Rattle.tally.specs.Money.{money_of, no_money, money_joined}
+use Rattle.tally.specs.Sums.{int_sum_by}
 use Rattle.tally.specs.Energy.{no_energy, energy_joined}
 use Rattle.tally.specs.MoneyLaws.{money_lawful, money_of_joined}
 use Rattle.tally.specs.EnergyLaws.{energy_lawful}
 use Rattle.tally.proofs.PairLaws.{pair_same}
 use Rattle.settlement.specs.Holdings.{Holding, no_holding, with_points, entry_of}
 use Rattle.settlement.specs.Hour.{Figures}
-use Rattle.settlement.specs.Sums.{sum_of}
 
 -- no points change nothing
 pub points_none : (h : Holding) → with_points (pos 0) h ≡ h
@@ -23,19 +25,19 @@ points_none h =
 pub points_more : (a b : ℤ) (h : Holding) → with_points b (with_points a h) ≡ with_points (a +ℤ b) h
 points_more a b h =
     pair_same _ _
-    (money_lawful.associative h.first (money_of (pos 0) a (pos 0) (pos 0)) (money_of (pos 0) b (pos 0) (pos 0)) ∙ ap (money_joined h.first) (money_of_joined (pos 0) a (pos 0) (pos 0) (pos 0) b (pos 0) (pos 0)))
+    (money_lawful.associative h.first (money_of (alone Contract a)) (money_of (alone Contract b)) ∙ ap (money_joined h.first) (money_of_joined (alone Contract a) (alone Contract b)))
     (energy_lawful.associative h.second no_energy no_energy ∙ ap (energy_joined h.second) (energy_lawful.identity no_energy))
 
 -- figures with another contract line
 abbrev pub with_contract : ℤ → Figures → Figures
-with_contract points f = record { market = f.market; contract = points; overcost = f.overcost; injected = f.injected; withdrawn = f.withdrawn }
+with_contract points f = record f { lines = record f.lines { contract = points } }
 
 -- the entry of figures without contracts, with points, is that of the figures with them
 pub points_entry : (points : ℤ) (f : Figures) → with_points points (entry_of (with_contract (pos 0) f)) ≡ entry_of (with_contract points f)
 points_entry points f =
     pair_same _ _
-    (money_of_joined f.market (pos 0) f.overcost (pos 0) (pos 0) points (pos 0) (pos 0)
-    ∙ (λ t. money_of (+ℤ_idr f.market t) (+ℤ_idl points t) (+ℤ_idr f.overcost t) (pos 0)))
+    (money_of_joined (record f.lines { contract = pos 0 }) (alone Contract points)
+    ∙ (λ t. money_of (record { market = +ℤ_idr f.lines.market t; contract = +ℤ_idl points t; overcost = +ℤ_idr f.lines.overcost t; power = +ℤ_idr f.lines.power t })))
     (energy_lawful.commutative (entry_of f).second no_energy ∙ energy_lawful.identity (entry_of f).second)
 
 -- points put on the entry of the agent with a number
@@ -55,11 +57,11 @@ points_placed fresh number points i some known within = elim (cases_eq number (i
 ]
 
 -- a sum over one list after another
-pub sum_of_append : {X : Type 0} (f : X → ℤ) (xs ys : List X) → sum_of f (xs ++ ys) ≡ sum_of f xs +ℤ sum_of f ys
-sum_of_append f [] ys = sym (+ℤ_idl (sum_of f ys))
-sum_of_append f (x ∷ xs) ys = ap (λ z. f x +ℤ z) (sum_of_append f xs ys) ∙ sym (+ℤ_assoc (f x) (sum_of f xs) (sum_of f ys))
+int_sum_by-append : {X : Type 0} (f : X → ℤ) (xs ys : List X) → int_sum_by f (xs ++ ys) ≡ int_sum_by f xs +ℤ int_sum_by f ys
+int_sum_by-append f [] ys = sym (+ℤ_idl (int_sum_by f ys))
+int_sum_by-append f (x ∷ xs) ys = ap (λ z. f x +ℤ z) (int_sum_by-append f xs ys) ∙ sym (+ℤ_assoc (f x) (int_sum_by f xs) (int_sum_by f ys))
 
 -- a sum over the first items of a list, with one more
-pub sum_of_more : {X : Type 0} (f : X → ℤ) (xs : List X) (i : ℕ) (d : X) → i < length xs → sum_of f (take (i + 1) xs) ≡ sum_of f (take i xs) +ℤ f (get_or xs i d)
-sum_of_more f xs i d within =
-    ap (sum_of f) (take_more xs i d within) ∙ sum_of_append f (take i xs) (get_or xs i d ∷ []) ∙ ap (λ z. sum_of f (take i xs) +ℤ z) (+ℤ_idr (f (get_or xs i d)))
+pub int_sum_by_more : {X : Type 0} (f : X → ℤ) (xs : List X) (i : ℕ) (d : X) → i < length xs → int_sum_by f (take (i + 1) xs) ≡ int_sum_by f (take i xs) +ℤ f (get_or xs i d)
+int_sum_by_more f xs i d within =
+    ap (int_sum_by f) (take_more xs i d within) ∙ int_sum_by-append f (take i xs) (get_or xs i d ∷ []) ∙ ap (λ z. int_sum_by f (take i xs) +ℤ z) (+ℤ_idr (f (get_or xs i d)))

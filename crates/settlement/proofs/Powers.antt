@@ -1,32 +1,25 @@
 -- The weights of a month's power, and what each account is charged. Assumes nothing.
-use Rattle.std.proofs.Common.{◌≡◌, ℕ, ◌<◌, ◌≤◌, List, length, get_or, sum_by, sum, ap, ◌∙◌, arith}
+use Rattle.std.proofs.Common.{◌≡◌, ℕ, ◌<◌, ◌≤◌, List, length, get_or, sum, ap, ◌∙◌, arith}
 use Rattle.std.proofs.lemmas.List.FromFn.{length-map-range_with_len}
 use Rattle.valuation.specs.Sharing.{parts_of}
 use Rattle.valuation.proofs.Sharing.{part_of_le, slice_index_or-parts_of}
 use Rattle.settlement.specs.declared.agents.Agent.{Agent}
-use Rattle.settlement.specs.Holdings.{Holding, no_holding, holding_joined, withdrawn_on, power_points}
-use Rattle.settlement.specs.Hour.{role_at, weight_for}
-use Rattle.settlement.specs.Power.{power_due, power_weights, power_part, power_line}
+use Rattle.forms.specs.Roles.{carries}
+use Rattle.settlement.specs.Agents.{agent_at}
+use Rattle.settlement.specs.Holdings.{Holding, no_holding, withdrawn_on, all_withdrawn}
+use Rattle.settlement.specs.Power.{power_due, power_weight, power_weights, power_part}
 use Rattle.settlement.specs.Sums.{sum_to}
-use Rattle.settlement.proofs.Sharing.{weight_le}
+use Rattle.settlement.proofs.Sharing.{counted_le}
 use Rattle.settlement.proofs.Sums.{sum_to_mono, sum_by_list, sum_counting}
-
--- the weight of the agent at a place
-abbrev pub power_weight : List Agent → (withdrawn : ℕ → ℕ) → ℕ → ℕ
-power_weight agents withdrawn i = weight_for (role_at agents i) (withdrawn i)
-
--- an account as it was, with its power line
-abbrev pub charged : List Agent → List Holding → ℕ → Holding
-charged agents accounts i = holding_joined (get_or accounts i no_holding) (power_points (power_line agents (withdrawn_on accounts) i))
 
 module _ (agents : List Agent) (accounts : List Holding) (long : length accounts ≡ length agents) where
   -- all weights together are at most the withdrawn energy of all accounts
-  pub power_weights_le : sum (power_weights agents (withdrawn_on accounts)) ≤ sum_by (λ (account : Holding). account.second.withdrawn) accounts
+  pub power_weights_le : sum (power_weights agents (withdrawn_on accounts)) ≤ all_withdrawn accounts
   power_weights_le =
       omega (
         arith,
         sum_counting (power_weight agents (withdrawn_on accounts)) (length agents),
-        sum_to_mono (length agents) (power_weight agents (withdrawn_on accounts)) (withdrawn_on accounts) (λ i within. weight_le (role_at agents i) (withdrawn_on accounts i)),
+        sum_to_mono (length agents) (power_weight agents (withdrawn_on accounts)) (withdrawn_on accounts) (λ i within. counted_le carries (agent_at agents i).role (withdrawn_on accounts i)),
         ap (λ n. sum_to n (withdrawn_on accounts)) long,
         sum_by_list (λ (account : Holding). account.second.withdrawn) accounts no_holding,
       )

@@ -1,106 +1,97 @@
--- A contract that may stand, in an hour whose posting is measured, is settled by the facts of that hour. Assumes nothing.
-use Rattle.std.proofs.Common.{◌≡◌, ℕ, zero, suc, ◌+◌, ◌-◌, ◌<◌, ◌≤◌, true, ◌&&◌, eqb, ltb, leb, List, length, get_or, ap, inl, inr, arith}
-use Rattle.std.proofs.lemmas.Bool.{and_parts, leb-true, ltb-true, ne_eqb, cases_eq, cases_Bool}
+-- A contract that may stand, in an hour whose posting fits, may be asked of its form by the facts of that hour. Assumes nothing.
+use Rattle.std.proofs.Common.{◌≡◌, ℕ, zero, suc, ◌+◌, ◌-◌, ◌<◌, ◌≤◌, Bool, true, false, not, cond, ◌&&◌, ltb, leb, List, [], ◌∷◌, length, None, Some, Option, sym, refl, ap, inl, inr, arith}
+use Rattle.std.specs.Prelude.{is_none}
+use Rattle.std.specs.List.{list_all}
+use Rattle.std.proofs.lemmas.Bool.{and_parts, leb-true, ltb-true, le-leb, cases_eq, not-false, cond-true, cond-false}
+use Rattle.std.proofs.lemmas.List.Elements.{All-weaker}
+use Rattle.std.proofs.lemmas.List.Sums.{AllPass-from_list_all}
+use Rattle.calendar.specs.Limits.{most_days, most_hours}
 use Rattle.forms.specs.declared.Contract.{Contract}
+use Rattle.forms.specs.declared.Facts.{Facts}
 use Rattle.forms.specs.declared.Parties.{Parties}
-use Rattle.forms.specs.Meaning.{Meaning, Settles}
-use Rattle.forms.specs.Terms.{Valid, valid_terms, parties_fit, numbers_fit, figures_fit, roles_fit, most_agents, most_hours}
-use Rattle.valuation.specs.Limits.{most_energy, most_price}
+use Rattle.forms.specs.Known.{valid_of, hours_fit_longest}
+use Rattle.forms.specs.Meaning.{MayAsk}
+use Rattle.forms.specs.Measured.{withdrawn_fits, Measured}
+use Rattle.forms.specs.Parties.{party_numbers}
+use Rattle.forms.specs.Roles.{distributes, has_role}
+use Rattle.forms.specs.Terms.{Valid, parties_fit, hours_fit, figures_fit}
+use Rattle.valuation.specs.Limits.{most_energy, most_price, least_factor, most_factor}
 use Rattle.settlement.specs.declared.agents.Agent.{Agent}
+use Rattle.settlement.specs.declared.faults.BookFault.{BookFault}
+use Rattle.settlement.specs.declared.faults.BookFault.TheVariants.{ContractTerms}
 use Rattle.settlement.specs.declared.lines.Line.{Line}
-use Rattle.forms.specs.Roles.{role_of}
-use Rattle.settlement.specs.Agents.{no_agent}
-use Rattle.settlement.specs.ContractFaults.{parties_of, in_book, contract_fits}
-use Rattle.settlement.specs.Hour.{line_at, role_at}
-use Rattle.settlement.specs.Pool.{distributed_by, distributors_withdrawn, facts_of}
-use Rattle.settlement.specs.PostingFaults.{withdrawn_together, Measured}
+use Rattle.settlement.specs.Agents.{agent_at, counted}
+use Rattle.settlement.specs.ContractFaults.{parties_of, in_book, PartiesKnown, contract_fault, contract_fits}
+use Rattle.settlement.specs.Faults.{met_if}
+use Rattle.settlement.specs.Legs.{distributors_withdrawn, facts_of}
+use Rattle.settlement.specs.Posting.{Posting, line_at}
+use Rattle.settlement.specs.PostingFaults.{withdrawn_together, PostingFits}
+use Rattle.settlement.specs.Setting.{Setting, hours_in}
 use Rattle.settlement.specs.Sums.{sum_to}
 use Rattle.settlement.proofs.Bounds.{within_limits}
+use Rattle.settlement.proofs.PostingFits.{unmet, none_met}
+use Rattle.settlement.proofs.Sharing.{counted_le}
 use Rattle.settlement.proofs.Sums.{sum_to_mono, sum_to_item_le}
 
--- ---- terms
+-- ---- a contract that may stand
 
--- two tests of limits that both passed
-both_le : (a b c d : ℕ) → (leb a b && leb c d) ≡ true → (a ≤ b) × (c ≤ d)
-both_le a b c d held = let parts = and_parts (leb a b) (leb c d) held in (leb-true a b parts.0, leb-true c d parts.1)
+-- what it is known to be
+pub record Fitting (setting : Setting) (c : Contract) : Type 0 where
+  pub known : PartiesKnown (length setting.agents) c
+  pub between : parties_fit c (parties_of setting.agents c) ≡ true
+  pub hours : hours_fit (hours_in setting) c ≡ true
+  pub figures : figures_fit c ≡ true
+  pub taken : setting.form.takes c (parties_of setting.agents c) ≡ true
 
--- terms that pass the test are valid, limit by limit
-pub valid_terms_lem : (c : Contract) (parties : Parties) → valid_terms c parties ≡ true → Valid c parties
-valid_terms_lem c parties held =
-    let whole = and_parts (parties_fit parties) (numbers_fit c && figures_fit c) held in
-    let rest = and_parts (numbers_fit c) (figures_fit c) whole.1 in
-    let sides = and_parts (roles_fit parties.seller.role parties.buyer.role) _ whole.0 in
-    let capacities = both_le parties.seller.capacity most_energy parties.buyer.capacity most_energy sides.1 in
-    let numbers = and_parts (leb 1 c.seller && leb c.seller most_agents) _ rest.0 in
-    let seller = both_le 1 c.seller c.seller most_agents numbers.0 in
-    let others = and_parts (leb 1 c.buyer && leb c.buyer most_agents) _ numbers.1 in
-    let buyer = both_le 1 c.buyer c.buyer most_agents others.0 in
-    let hours = and_parts (leb c.first c.last) (ltb c.last most_hours) others.1 in
-    let price = and_parts (leb c.price most_price) _ rest.1 in
-    let peak = and_parts (leb c.peak most_energy) _ price.1 in
-    let medium = and_parts (leb c.medium most_energy) _ peak.1 in
-    let last = both_le c.base most_energy c.margin most_energy medium.1 in
+-- a test whose failing is a fault passed, if the fault is not met
+kept : {F : Type 0} (test : Bool) (fault : F) → met_if (not test) fault ≡ None → test ≡ true
+kept test fault none = not-false test (unmet (not test) fault (sym none))
+
+-- where there is none, it is none
+is_none_lem : {X : Type 0} (o : Option X) → is_none o ≡ true → o ≡ None
+is_none_lem None none = refl
+is_none_lem (Some x) none = cc
+
+-- numbers of the book are 1 to its number of agents
+numbers_known : (agents : List Agent) (c : Contract) → list_all (in_book agents) (party_numbers c) ≡ true → PartiesKnown (length agents) c
+numbers_known agents c held =
+    All-weaker (λ number. in_book agents number ≡ true) (λ number. (1 ≤ number) × (number ≤ length agents))
+    (λ number in_it. let parts = and_parts (leb 1 number) (leb number (length agents)) in_it in (leb-true 1 number parts.0, leb-true number (length agents) parts.1))
+    (party_numbers c) (AllPass-from_list_all (in_book agents) (party_numbers c) held)
+
+pub fitting : (setting : Setting) (c : Contract) → contract_fits setting c ≡ true → Fitting setting c
+fitting setting c fits =
+    let parties = parties_of setting.agents c in
+    let known : Bool = list_all (in_book setting.agents) (party_numbers c) in
+    let last : List (Option BookFault) = [] in
+    let terms : Option BookFault = met_if (not (figures_fit c && setting.form.takes c parties)) ContractTerms in
+    let hours : Option BookFault = met_if (not (hours_fit (hours_in setting) c)) ContractTerms in
+    let a = none_met (met_if (not (known && parties_fit c parties)) ContractTerms) (hours ∷ terms ∷ last) (is_none_lem (contract_fault setting c) fits) in
+    let b = none_met hours (terms ∷ last) a.1 in
+    let d = none_met terms last b.1 in
+    let between = and_parts known (parties_fit c parties) (kept _ _ a.0) in
+    let others = and_parts (figures_fit c) (setting.form.takes c parties) (kept _ _ d.0) in
     record {
-      roles = sides.0;
-      seller_capacity = capacities.0;
-      buyer_capacity = capacities.1;
-      seller_from = seller.0;
-      seller_to = seller.1;
-      buyer_from = buyer.0;
-      buyer_to = buyer.1;
-      hours = leb-true c.first c.last hours.0;
-      month = ltb-true c.last most_hours hours.1;
-      price = leb-true c.price most_price price.0;
-      peak = leb-true c.peak most_energy peak.0;
-      medium = leb-true c.medium most_energy medium.0;
-      base = last.0;
-      margin = last.1;
+      known = numbers_known setting.agents c between.0;
+      between = between.1;
+      hours = kept _ _ b.0;
+      figures = others.0;
+      taken = others.1;
     }
 
--- what a contract that may stand is known to be
-pub record Fitting (form : Meaning) (hours : ℕ) (agents : List Agent) (c : Contract) : Type 0 where
-  pub seller_from : 1 ≤ c.seller
-  pub seller_to : c.seller ≤ length agents
-  pub buyer_from : 1 ≤ c.buyer
-  pub buyer_to : c.buyer ≤ length agents
-  pub within : c.last < hours
-  pub valid : Valid c (parties_of agents c)
-  pub taken : form.takes c (parties_of agents c) ≡ true
+-- its parties, one by one
+pub seller_known : (count : ℕ) (c : Contract) → PartiesKnown count c → (1 ≤ c.seller) × (c.seller ≤ count)
+seller_known count c known = known 0 0 (omega arith)
 
-pub fitting : (form : Meaning) (hours : ℕ) (agents : List Agent) (c : Contract) → contract_fits form hours agents c ≡ true → Fitting form hours agents c
-fitting form hours agents c fits =
-    let a = and_parts (in_book agents c.seller) _ fits in
-    let b = and_parts (in_book agents c.buyer) _ a.1 in
-    let d = and_parts (ltb c.last hours) _ b.1 in
-    let e = and_parts (valid_terms c (parties_of agents c)) _ d.1 in
-    let seller = both_le 1 c.seller c.seller (length agents) a.0 in
-    let buyer = both_le 1 c.buyer c.buyer (length agents) b.0 in
-    record {
-      seller_from = seller.0;
-      seller_to = seller.1;
-      buyer_from = buyer.0;
-      buyer_to = buyer.1;
-      within = ltb-true c.last hours d.0;
-      valid = valid_terms_lem c (parties_of agents c) e.0;
-      taken = e.1;
-    }
+pub buyer_known : (count : ℕ) (c : Contract) → PartiesKnown count c → (1 ≤ c.buyer) × (c.buyer ≤ count)
+buyer_known count c known = known 1 0 (omega arith)
+
+-- it is valid, in a month of any book
+pub valid_terms_lem : (setting : Setting) (c : Contract) → setting.days ≤ most_days → Fitting setting c → Valid c (parties_of setting.agents c)
+valid_terms_lem setting c few fitting =
+    valid_of c (parties_of setting.agents c) fitting.between (hours_fit_longest (hours_in setting) c (omega arith) fitting.hours) fitting.figures
 
 -- ---- the distributors' energy
-
--- what a distributor withdraws is among it
-distributed_own : (code withdrawn : ℕ) → code ≡ 2 → distributed_by (role_of code) withdrawn ≡ withdrawn
-distributed_own code withdrawn is = ap (λ c. distributed_by (role_of c) withdrawn) is
-
--- what anybody else withdraws is not
-distributed_none : (code withdrawn : ℕ) → (code ≡ 2 → ⊥) → distributed_by (role_of code) withdrawn ≡ 0
-distributed_none code withdrawn other = elim (cases_Bool (eqb code 1)) [
-  | inl one ↦ rw one
-  | inr more ↦ elim (cases_Bool (eqb code 3)) [ inl three ↦ rw (more, ne_eqb code 2 other, three) | inr none ↦ rw (more, ne_eqb code 2 other, none) ]
-]
-
-distributed_le : (code withdrawn : ℕ) → distributed_by (role_of code) withdrawn ≤ withdrawn
-distributed_le code withdrawn =
-    elim (cases_eq code 2) [ inl is ↦ omega (arith, distributed_own code withdrawn is) | inr other ↦ omega (arith, distributed_none code withdrawn other) ]
 
 -- no larger item by item, and none of one item: together with that item no larger either
 pub sum_to_spare : (n : ℕ) (f g : ℕ → ℕ) (k : ℕ) → k < n → ((j : ℕ) → j < n → f j ≤ g j) → f k ≡ 0 → g k + sum_to n f ≤ sum_to n g
@@ -113,48 +104,68 @@ sum_to_spare (suc n) f g k within each none = elim (cases_eq k n) [
 module _ (agents : List Agent) (lines : List Line) where
   -- what an agent withdrew, if it is a distributor
   abbrev distributed : ℕ → ℕ
-  distributed j = distributed_by (role_at agents j) (line_at lines j).withdrawn
+  distributed j = counted distributes (agent_at agents j).role (line_at lines j).withdrawn
 
   distributed_each : (j : ℕ) → j < length lines → distributed j ≤ (line_at lines j).withdrawn
-  distributed_each j below = distributed_le (get_or agents j no_agent).role (line_at lines j).withdrawn
+  distributed_each j below = counted_le distributes (agent_at agents j).role (line_at lines j).withdrawn
 
   pub distributors_le : distributors_withdrawn agents lines ≤ withdrawn_together lines
   distributors_le = sum_to_mono (length lines) distributed (λ j. (line_at lines j).withdrawn) distributed_each
 
   -- a distributor's own energy is among that of all distributors
-  pub distributors_among : (k : ℕ) → k < length lines → (get_or agents k no_agent).role ≡ 2 → (line_at lines k).withdrawn ≤ distributors_withdrawn agents lines
+  pub distributors_among : (k : ℕ) → k < length lines → has_role distributes (agent_at agents k).role ≡ true → (line_at lines k).withdrawn ≤ distributors_withdrawn agents lines
   distributors_among k within is =
-      omega (arith, distributed_own (get_or agents k no_agent).role (line_at lines k).withdrawn is, sum_to_item_le (length lines) distributed k within)
+      omega (arith, cond-true (has_role distributes (agent_at agents k).role) (line_at lines k).withdrawn 0 is, sum_to_item_le (length lines) distributed k within)
 
   -- and that of anybody else comes on top of it
-  pub distributors_apart : (k : ℕ) → k < length lines → ((get_or agents k no_agent).role ≡ 2 → ⊥) → (line_at lines k).withdrawn + distributors_withdrawn agents lines ≤ withdrawn_together lines
+  pub distributors_apart : (k : ℕ) → k < length lines → has_role distributes (agent_at agents k).role ≡ false →
+      (line_at lines k).withdrawn + distributors_withdrawn agents lines ≤ withdrawn_together lines
   distributors_apart k within other =
       sum_to_spare (length lines) distributed (λ j. (line_at lines j).withdrawn) k within distributed_each
-      (distributed_none (get_or agents k no_agent).role (line_at lines k).withdrawn other)
+      (cond-false (has_role distributes (agent_at agents k).role) (line_at lines k).withdrawn 0 other)
 
 -- ---- an hour
 
-pub settles : (form : Meaning) (hours weekday hour price : ℕ) (agents : List Agent) (lines : List Line) (c : Contract) → length lines ≡ length agents → Measured price lines →
-    contract_fits form hours agents c ≡ true → Settles form c (parties_of agents c) (facts_of weekday agents hour price lines c)
-settles form hours weekday hour price agents lines c long sane fits =
-    let known = fitting form hours agents c fits in
-    let seller : c.seller - 1 < length lines = omega arith in
-    let buyer : c.buyer - 1 < length lines = omega arith in
-    let sold = within_limits (line_at lines (c.seller - 1)) (sane.each_within (c.seller - 1) seller) in
-    let bought = within_limits (line_at lines (c.buyer - 1)) (sane.each_within (c.buyer - 1) buyer) in
+-- facts of withdrawn energy that fit, whether or not the buyer is a distributor
+withdrawn_fit : (parties : Parties) (facts : Facts) →
+    (has_role distributes parties.buyer.role ≡ true → (facts.withdrawn ≤ facts.distributors_withdrawn) × (facts.distributors_withdrawn ≤ most_energy)) →
+    (has_role distributes parties.buyer.role ≡ false → facts.withdrawn + facts.distributors_withdrawn ≤ most_energy) → withdrawn_fits parties facts ≡ true
+withdrawn_fit parties facts among apart = by (has_role distributes parties.buyer.role) refl
+  where
+    all : ℕ
+    all = facts.distributors_withdrawn
+
+    by : (buys : Bool) → has_role distributes parties.buyer.role ≡ buys → cond buys (leb facts.withdrawn all && leb all most_energy) (leb (facts.withdrawn + all) most_energy) ≡ true
+    by true is = let own = le-leb facts.withdrawn all (among is).0 in let others = le-leb all most_energy (among is).1 in simp (own, others)
+    by false is = le-leb (facts.withdrawn + all) most_energy (apart is)
+
+module _ (setting : Setting) (p : Posting) (c : Contract) (long : length p.lines ≡ length setting.agents) (sane : PostingFits p) (known : PartiesKnown (length setting.agents) c) where
+  -- the facts of the hour are measured
+  facts_measured : Measured (parties_of setting.agents c) (facts_of setting p c)
+  facts_measured =
+      let seller = seller_known (length setting.agents) c known in
+      let buyer = buyer_known (length setting.agents) c known in
+      let sells : c.seller - 1 < length p.lines = omega (arith, seller.0, seller.1) in
+      let buys : c.buyer - 1 < length p.lines = omega (arith, buyer.0, buyer.1) in
+      let sold = within_limits (line_at p.lines (c.seller - 1)) (sane.each_within (c.seller - 1) sells) in
+      let bought = within_limits (line_at p.lines (c.buyer - 1)) (sane.each_within (c.buyer - 1) buys) in
+      let withdrawn = withdrawn_fit (parties_of setting.agents c) (facts_of setting p c)
+      (λ is. (distributors_among setting.agents p.lines (c.buyer - 1) buys is, omega (arith, distributors_le setting.agents p.lines, sane.withdrawn_within)))
+      (λ other. omega (arith, distributors_apart setting.agents p.lines (c.buyer - 1) buys other, sane.withdrawn_within)) in
+      let price = le-leb p.price most_price sane.price_within in
+      let from = le-leb least_factor (line_at p.lines (c.seller - 1)).factor sold.least_factor in
+      let to = le-leb (line_at p.lines (c.seller - 1)).factor most_factor sold.most_factor in
+      let from' = le-leb least_factor (line_at p.lines (c.buyer - 1)).factor bought.least_factor in
+      let to' = le-leb (line_at p.lines (c.buyer - 1)).factor most_factor bought.most_factor in
+      let injected = le-leb (line_at p.lines (c.seller - 1)).injected most_energy sold.injected in
+      simp (price, from, to, from', to', injected, withdrawn)
+
+pub settles : (setting : Setting) (p : Posting) (c : Contract) → setting.days ≤ most_days → length p.lines ≡ length setting.agents → PostingFits p →
+    contract_fits setting c ≡ true → MayAsk setting.form c (parties_of setting.agents c) (facts_of setting p c)
+settles setting p c few long sane fits =
+    let is = fitting setting c fits in
     record {
-      taken = known.taken;
-      valid = known.valid;
-      measured = record {
-        price = sane.price_within;
-        seller_factor_from = sold.least_factor;
-        seller_factor_to = sold.most_factor;
-        buyer_factor_from = bought.least_factor;
-        buyer_factor_to = bought.most_factor;
-        injected = sold.injected;
-        withdrawn = bought.withdrawn;
-        distributors = omega (arith, distributors_le agents lines);
-        among = distributors_among agents lines (c.buyer - 1) buyer;
-        apart = λ other. omega (arith, distributors_apart agents lines (c.buyer - 1) buyer other);
-      };
+      taken = is.taken;
+      valid = valid_terms_lem setting c few is;
+      measured = facts_measured setting p c long sane is.known;
     }

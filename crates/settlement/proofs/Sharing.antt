@@ -1,25 +1,29 @@
--- The weights of an hour's sharing, and its parts. Assumes nothing.
-use Rattle.std.proofs.Common.{ℕ, ◌≤◌, List, length, Some, None, sum, Option, arith}
-use Rattle.settlement.specs.declared.agents.Agent.{Agent}
+-- Energy that counts by roles, and the weights of an hour's sharing. Assumes nothing.
+use Rattle.std.proofs.Common.{ℕ, ◌+◌, ◌<◌, ◌≤◌, Bool, true, false, cond, List, length, sum, arith}
 use Rattle.forms.specs.declared.roles.Role.{Role}
-use Rattle.forms.specs.declared.roles.Role.TheVariants.{Generator, Distributor, Consumer}
+use Rattle.forms.specs.Roles.{carries, has_role}
+use Rattle.settlement.specs.declared.agents.Agent.{Agent}
 use Rattle.settlement.specs.declared.lines.Line.{Line}
-use Rattle.settlement.specs.Hour.{line_at, role_at, weight_for, weight_at, weights_of}
+use Rattle.settlement.specs.Agents.{agent_at, counted}
+use Rattle.settlement.specs.Hour.{weight_at, weights_of}
+use Rattle.settlement.specs.Posting.{line_at}
 use Rattle.settlement.specs.PostingFaults.{withdrawn_together}
 use Rattle.settlement.proofs.Sums.{sum_to_mono, sum_counting}
 
--- a weight is at most the withdrawn energy
-pub weight_le : (role : Option Role) (withdrawn : ℕ) → weight_for role withdrawn ≤ withdrawn
-weight_le None withdrawn = omega arith
-weight_le (Some Generator) withdrawn = omega arith
-weight_le (Some Distributor) withdrawn = omega arith
-weight_le (Some Consumer) withdrawn = omega arith
+-- what counts is at most all of it
+pub counted_le : (such : Role → Bool) (code energy : ℕ) → counted such code energy ≤ energy
+counted_le such code energy = by (has_role such code)
+  where
+    by : (counts : Bool) → cond counts energy 0 ≤ energy
+    by true = omega arith
+    by false = omega arith
 
--- and so all together
+-- and so all weights together
 pub weights_le : (agents : List Agent) (lines : List Line) → sum (weights_of agents lines) ≤ withdrawn_together lines
 weights_le agents lines =
     omega (
       arith,
       sum_counting (weight_at agents lines) (length lines),
-      sum_to_mono (length lines) (weight_at agents lines) (λ i. (line_at lines i).withdrawn) (λ i within. weight_le (role_at agents i) (line_at lines i).withdrawn),
+      sum_to_mono (length lines) (weight_at agents lines) (λ i. (line_at lines i).withdrawn)
+          (λ i within. counted_le carries (agent_at agents i).role (line_at lines i).withdrawn),
     )

@@ -10,9 +10,11 @@ use Rattle.forms.specs.declared.roles.Role.{Role}
 use Rattle.settlement.specs.declared.lines.Class.{Class}
 use Rattle.settlement.specs.declared.lines.Class.TheVariants.{Normal, Obligated, Forced}
 use Rattle.settlement.specs.declared.lines.Line.{Line}
-use Rattle.settlement.specs.Hour.{line_at, role_at, injected_amount, withdrawn_amount, market_line, excess_in, excess_on, is_obligated, is_forced, obligated_on, obligated_sum, caused_on, caused_sum, weight_at, weights_of, carried_by, overcost_line, residue_of}
+use Rattle.settlement.specs.Agents.{role_at}
+use Rattle.settlement.specs.Hour.{injected_amount, withdrawn_amount, market_line, excess_in, excess_on, is_obligated, is_forced, obligated_on, obligated_sum, caused_on, caused_sum, weight_at, weights_of, carried_by, overcost_line, residue_of}
 use Rattle.settlement.specs.Lines.{class_of, must_run, class_kept, line_kept}
-use Rattle.settlement.specs.PostingFaults.{uncarried}
+use Rattle.settlement.specs.Posting.{Posting, line_at}
+use Rattle.settlement.specs.PostingFaults.{kept_at, uncarried}
 use Rattle.settlement.specs.Sums.{sum_to, sum_to_ℤ}
 use Rattle.settlement.proofs.Sums.{sum_to_same, sum_to_change, sum_to_const_zero, sum_to_zero, sum_to_add, sum_to_swap, sum_to_ℤ_add, sum_counting}
 
@@ -44,6 +46,10 @@ cause_within count role l (Some Forced) kept forced =
     let tests = and_parts (leb 1 l.cause) (leb l.cause count) (and_parts (must_run role l) (leb 1 l.cause && leb l.cause count) kept).1 in
     (leb-true 1 l.cause tests.0, leb-true l.cause count tests.1)
 
+-- and has a line
+cause_in : (count n : ℕ) → n ≡ count → (role : Option Role) (l : Line) (class : Option Class) → class_kept count role l class ≡ true → is_forced class ≡ true → (1 ≤ l.cause) × (l.cause ≤ n)
+cause_in count n long role l class kept forced = let within = cause_within count role l class kept forced in (within.0, omega (arith, within.1))
+
 -- one agent, and no other, caused a forced line
 caused_once : (n cause excess : ℕ) (forced : Bool) → (forced ≡ true → (1 ≤ cause) × (cause ≤ n)) →
     sum_to n (λ i. cond (forced && eqb cause (i + 1)) excess 0) ≡ cond forced excess 0
@@ -72,39 +78,39 @@ parts_together points weights carried = either (eq-zero-or-pos (sum weights))
 
 -- ---- an hour
 
-module _ (agents : List Agent) (price : ℕ) (lines : List Line) (kept : (j : ℕ) → j < length lines → line_kept (length lines) (role_at agents j) (line_at lines j) ≡ true) (carried : uncarried agents price lines ≡ false) where
+module _ (agents : List Agent) (p : Posting) (long : length p.lines ≡ length agents) (kept : (j : ℕ) → j < length p.lines → kept_at agents p.lines j ≡ true) (carried : uncarried agents p ≡ false) where
   -- all that was caused is the forced excess
-  caused_together : sum_to (length lines) (caused_sum price lines) ≡ sum_to (length lines) (λ j. forced_on price (line_at lines j))
+  caused_together : sum_to (length p.lines) (caused_sum p) ≡ sum_to (length p.lines) (λ j. forced_on p.price (line_at p.lines j))
   caused_together =
-      sum_to_swap (length lines) (length lines) (λ i j. caused_on price i (line_at lines j))
-      ∙ sum_to_same (length lines) _ _ (λ j below.
-      caused_once (length lines) (line_at lines j).cause (excess_on price (line_at lines j)) (is_forced (class_of (line_at lines j).class))
-      (cause_within (length lines) (role_at agents j) (line_at lines j) (class_of (line_at lines j).class) (kept j below)))
+      sum_to_swap (length p.lines) (length p.lines) (λ i j. caused_on p.price i (line_at p.lines j))
+      ∙ sum_to_same (length p.lines) _ _ (λ j below.
+      caused_once (length p.lines) (line_at p.lines j).cause (excess_on p.price (line_at p.lines j)) (is_forced (class_of (line_at p.lines j).class))
+      (cause_in (length agents) (length p.lines) long (role_at agents j) (line_at p.lines j) (class_of (line_at p.lines j).class) (kept j below)))
 
   -- all that is carried is the obligated excess
-  carried_together : sum_to (length lines) (carried_by agents price lines) ≡ obligated_sum price lines
+  carried_together : sum_to (length p.lines) (carried_by agents p) ≡ obligated_sum p
   carried_together =
-      subst (λ n. sum_to n (carried_by agents price lines) ≡ obligated_sum price lines) (length-map-range_with_len (weight_at agents lines) 0 (length lines))
-      (parts_together (obligated_sum price lines) (weights_of agents lines) carried)
+      subst (λ n. sum_to n (carried_by agents p) ≡ obligated_sum p) (length-map-range_with_len (weight_at agents p.lines) 0 (length p.lines))
+      (parts_together (obligated_sum p) (weights_of agents p.lines) carried)
 
   -- all excess is caused or carried
-  excess_together : sum_to (length lines) (λ i. excess_on price (line_at lines i)) ≡ sum_to (length lines) (λ i. caused_sum price lines i + carried_by agents price lines i)
+  excess_together : sum_to (length p.lines) (λ i. excess_on p.price (line_at p.lines i)) ≡ sum_to (length p.lines) (λ i. caused_sum p i + carried_by agents p i)
   excess_together =
-      let obligated = λ (j : ℕ). obligated_on price (line_at lines j) in
-      let forced = λ (j : ℕ). forced_on price (line_at lines j) in
-      let split = sum_to_same (length lines) (λ j. excess_on price (line_at lines j)) (λ j. obligated j + forced j)
-      (λ j below. excess_split price (line_at lines j) (class_of (line_at lines j).class)) in
-      omega (arith, caused_together, carried_together, sum_to_add (length lines) obligated forced, sum_to_add (length lines) (caused_sum price lines) (carried_by agents price lines))
+      let obligated = λ (j : ℕ). obligated_on p.price (line_at p.lines j) in
+      let forced = λ (j : ℕ). forced_on p.price (line_at p.lines j) in
+      let split = sum_to_same (length p.lines) (λ j. excess_on p.price (line_at p.lines j)) (λ j. obligated j + forced j)
+      (λ j below. excess_split p.price (line_at p.lines j) (class_of (line_at p.lines j).class)) in
+      omega (arith, caused_together, carried_together, sum_to_add (length p.lines) obligated forced, sum_to_add (length p.lines) (caused_sum p) (carried_by agents p))
 
-  market_together : sum_to_ℤ (length lines) (λ i. market_line price (line_at lines i)) ≡ neg_ℤ (residue_of price lines)
+  market_together : sum_to_ℤ (length p.lines) (λ i. market_line p.price (line_at p.lines i)) ≡ neg_ℤ (residue_of p)
   market_together =
-      omega (arith, ints, sum_to_ℤ_less (length lines) (λ i. injected_amount price (line_at lines i)) (λ i. withdrawn_amount price (line_at lines i)))
+      omega (arith, ints, sum_to_ℤ_less (length p.lines) (λ i. injected_amount p.price (line_at p.lines i)) (λ i. withdrawn_amount p.price (line_at p.lines i)))
 
-  overcost_together : sum_to_ℤ (length lines) (overcost_line agents price lines) ≡ pos 0
+  overcost_together : sum_to_ℤ (length p.lines) (overcost_line agents p) ≡ pos 0
   overcost_together =
-      omega (arith, ints, excess_together, sum_to_ℤ_less (length lines) (λ i. excess_on price (line_at lines i)) (λ i. caused_sum price lines i + carried_by agents price lines i))
+      omega (arith, ints, excess_together, sum_to_ℤ_less (length p.lines) (λ i. excess_on p.price (line_at p.lines i)) (λ i. caused_sum p i + carried_by agents p i))
 
   -- what a posting gives all agents together
-  pub lines_together : sum_to_ℤ (length lines) (λ i. market_line price (line_at lines i) +ℤ overcost_line agents price lines i) ≡ neg_ℤ (residue_of price lines)
+  pub lines_together : sum_to_ℤ (length p.lines) (λ i. market_line p.price (line_at p.lines i) +ℤ overcost_line agents p i) ≡ neg_ℤ (residue_of p)
   lines_together =
-      omega (arith, ints, market_together, overcost_together, sum_to_ℤ_add (length lines) (λ i. market_line price (line_at lines i)) (overcost_line agents price lines))
+      omega (arith, ints, market_together, overcost_together, sum_to_ℤ_add (length p.lines) (λ i. market_line p.price (line_at p.lines i)) (overcost_line agents p))

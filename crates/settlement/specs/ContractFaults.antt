@@ -1,17 +1,20 @@
 -- Contracts in a book: their parties, which of them may stand, and the faults of entering and cancelling one. Assumes nothing.
-use Rattle.std.specs.Prelude.{ℕ, ◌+◌, ◌-◌, ◌≤◌, Bool, true, not, ◌&&◌, ◌||◌, List, length, is_some, Some, None, Option, nat_le, nat_lt, slice_index_or}
+use Rattle.std.specs.Prelude.{ℕ, ◌+◌, ◌-◌, ◌≤◌, Bool, true, not, ◌&&◌, ◌||◌, List, [], ◌∷◌, length, is_some, is_none, Some, None, Option, nat_le, slice_index_or, All}
+use Rattle.std.specs.List.{list_all}
 use Rattle.std.specs.Option.{option_map}
+use Rattle.tally.specs.Failing.{first_failing}
 use Rattle.forms.specs.declared.Contract.{Contract}
 use Rattle.forms.specs.declared.Parties.{Parties}
 use Rattle.forms.specs.declared.Party.{Party}
-use Rattle.forms.specs.Meaning.{Meaning}
-use Rattle.forms.specs.Terms.{valid_terms}
+use Rattle.forms.specs.Limits.{most_contracts}
+use Rattle.forms.specs.Parties.{party_numbers}
+use Rattle.forms.specs.Terms.{parties_fit, hours_fit, figures_fit}
 use Rattle.settlement.specs.declared.agents.Agent.{Agent}
 use Rattle.settlement.specs.declared.faults.BookFault.{BookFault}
 use Rattle.settlement.specs.declared.faults.BookFault.TheVariants.{ContractNumber, ContractTerms, CoveredHour}
-use Rattle.settlement.specs.Agents.{no_agent}
-use Rattle.settlement.specs.Faults.{met_if}
-use Rattle.settlement.specs.Sums.{first_failing}
+use Rattle.settlement.specs.Agents.{agent_at}
+use Rattle.settlement.specs.Faults.{met_if, first_met}
+use Rattle.settlement.specs.Setting.{Setting, hours_in}
 
 -- an agent as a party to a contract: its role and its capacity
 abbrev pub party_of : Agent → Party
@@ -19,60 +22,65 @@ party_of a = record { role = a.role; capacity = a.capacity }
 
 -- the two parties to a contract, which names them by number
 abbrev pub parties_of : List Agent → Contract → Parties
-parties_of agents c = record { seller = party_of (slice_index_or agents (c.seller - 1) no_agent); buyer = party_of (slice_index_or agents (c.buyer - 1) no_agent) }
+parties_of agents c = record {
+  seller = party_of (agent_at agents (c.seller - 1));
+  buyer = party_of (agent_at agents (c.buyer - 1));
+}
 
 -- an agent of the book, by number
 abbrev pub in_book : List Agent → ℕ → Bool
 in_book agents number = nat_le 1 number && nat_le number (length agents)
 
--- both parties to a contract are agents of a book of so many
-pub record PartiesKnown (count : ℕ) (c : Contract) : Type 0 where
-  pub seller_from : 1 ≤ c.seller
-  pub seller_to : c.seller ≤ count
-  pub buyer_from : 1 ≤ c.buyer
-  pub buyer_to : c.buyer ≤ count
+-- the parties to a contract are agents of a book of so many
+abbrev pub PartiesKnown : (count : ℕ) → Contract → Type 0
+PartiesKnown count c = All (λ number. (1 ≤ number) × (number ≤ count)) (party_numbers c)
 
--- a contract that may stand in a month of so many hours: its parties are agents of the book in roles that go together, its hours and figures
--- are within their limits, and the form takes its terms
-abbrev pub contract_fits : Meaning → (hours : ℕ) → List Agent → Contract → Bool
-contract_fits form hours agents c =
-    in_book agents c.seller
-    && (in_book agents c.buyer && (nat_lt c.last hours && (valid_terms c (parties_of agents c) && form.takes c (parties_of agents c))))
+-- 13: the contract may not stand by its parties, which are agents of the book, by its hours, which are those of the month, or by
+-- its other figures and terms, which the form takes
+abbrev pub contract_faults : Setting → Contract → List (Option BookFault)
+contract_faults setting c =
+    let parties : Parties = parties_of setting.agents c in
+    met_if (not (list_all (in_book setting.agents) (party_numbers c) && parties_fit c parties)) ContractTerms
+    ∷ met_if (not (hours_fit (hours_in setting) c)) ContractTerms
+    ∷ met_if (not (figures_fit c && setting.form.takes c parties)) ContractTerms ∷ []
+
+abbrev pub contract_fault : Setting → Contract → Option BookFault
+contract_fault setting c = first_met (contract_faults setting c)
+
+-- a contract may stand in a month
+abbrev pub contract_fits : Setting → Contract → Bool
+contract_fits setting c = is_none (contract_fault setting c)
 
 -- what is in a contract place may stand there
-abbrev pub place_fits : Meaning → (hours : ℕ) → List Agent → Option Contract → Bool
-place_fits form hours agents None = true
-place_fits form hours agents (Some c) = contract_fits form hours agents c
+abbrev pub place_fits : Setting → Option Contract → Bool
+place_fits setting None = true
+place_fits setting (Some c) = contract_fits setting c
 
 -- a contract covers the hours from its first to its last
 abbrev pub covers : Contract → ℕ → Bool
 covers c hour = nat_le c.first hour && nat_le hour c.last
 
--- ---- faults
-
 -- the contract that stands under a number, if any
 abbrev pub place_at : List (Option Contract) → ℕ → Option Contract
 place_at places number = slice_index_or places (number - 1) None
 
--- contract numbers are 1 to 64
+-- a number that contracts may have
 abbrev pub number_known : ℕ → Bool
-number_known number = nat_le 1 number && nat_le number 64
+number_known number = nat_le 1 number && nat_le number most_contracts
 
--- 12 at entry: the number is outside 1 to 64, or taken
+-- 12 at entry: the number is none that contracts may have, or taken
 abbrev pub taken_fault : List (Option Contract) → ℕ → Option BookFault
 taken_fault places number = met_if (not (number_known number) || is_some (place_at places number)) ContractNumber
 
--- 12 at cancelling: the number is outside 1 to 64, or nothing stands under it
+-- 12 at cancelling: the number is none that contracts may have, or nothing stands under it
 abbrev pub vacant_fault : List (Option Contract) → ℕ → Option BookFault
-vacant_fault places number = met_if (not (number_known number) || not (is_some (place_at places number))) ContractNumber
-
--- 13: the contract may not stand
-abbrev pub terms_fault : Meaning → (hours : ℕ) → List Agent → Contract → Option BookFault
-terms_fault form hours agents c = met_if (not (contract_fits form hours agents c)) ContractTerms
+vacant_fault places number =
+    met_if (not (number_known number) || not (is_some (place_at places number))) ContractNumber
 
 -- 14: the first covered hour that stands, where this tells which hours do
 abbrev pub covered_fault : (ℕ → Bool) → Contract → Option BookFault
-covered_fault stands c = option_map (λ hour. CoveredHour hour) (first_failing (λ hour. not (stands hour)) c.first (c.last + 1 - c.first))
+covered_fault stands c =
+    option_map (λ hour. CoveredHour hour) (first_failing (λ hour. not (stands hour)) c.first (c.last + 1 - c.first))
 
 -- 14 for what is in a contract place
 abbrev pub covered_in : (ℕ → Bool) → Option Contract → Option BookFault

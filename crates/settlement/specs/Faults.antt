@@ -1,5 +1,5 @@
 -- The faults by number and place, and how one of several is answered. Assumes nothing.
-use Rattle.std.specs.Prelude.{ℕ, Bool, cond, List, [], ◌∷◌, Some, None, Ok, Err, Option, Result}
+use Rattle.std.specs.Prelude.{ℕ, Bool, if◌then◌else◌, List, [], ◌∷◌, Some, None, Ok, Err, Option, Result}
 use Rattle.packets.specs.Faults.{number_of as byte_number, place_of as byte_place}
 use Rattle.settlement.specs.declared.faults.LineFault.{LineFault}
 use Rattle.settlement.specs.declared.faults.LineFault.TheVariants.{Packet, HourOutside, OutsideLimit, BreaksRule, TooMuchTogether}
@@ -52,7 +52,7 @@ place_of (CoveredHour hour) = hour
 
 -- a fault that is met where the test holds
 abbrev pub met_if : {F : Type 0} → Bool → F → Option F
-met_if test fault = cond test (Some fault) None
+met_if test fault = if test then Some fault else None
 
 -- the first fault of a list that is met, if any
 abbrev pub first_met : {F : Type 0} → List (Option F) → Option F

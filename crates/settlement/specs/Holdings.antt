@@ -1,8 +1,11 @@
 -- Accounts and entries: money and energy together. Assumes nothing.
-use Rattle.std.specs.Prelude.{◌≡◌, ℕ, ◌<◌, List, length, ℤ, pos, slice_index_or}
+use Rattle.std.specs.Prelude.{◌≡◌, ℕ, ◌<◌, List, length, ℤ, sum_by, slice_index_or}
 use Rattle.tally.specs.declared.money.Money.{Money}
+use Rattle.tally.specs.declared.money.MoneyLine.{MoneyLine}
+use Rattle.tally.specs.declared.money.MoneyLine.TheVariants.{Contract, Power}
 use Rattle.tally.specs.declared.energy.Energy.{Energy}
 use Rattle.tally.specs.declared.pair.Pair.{Pair}
+use Rattle.tally.specs.Lines.{alone}
 use Rattle.tally.specs.Money.{money_of, no_money, money_joined, money_undone}
 use Rattle.tally.specs.Energy.{energy_of, no_energy, energy_joined, energy_undone}
 use Rattle.tally.specs.Pair.{pair_of, pair_joined, pair_undone}
@@ -28,13 +31,21 @@ holding_undone = pair_undone money_undone energy_undone
 abbrev pub withdrawn_on : List Holding → ℕ → ℕ
 withdrawn_on accounts i = (slice_index_or accounts i no_holding).second.withdrawn
 
+-- all of it together
+abbrev pub all_withdrawn : List Holding → ℕ
+all_withdrawn accounts = sum_by (λ (account : Holding). account.second.withdrawn) accounts
+
 -- the entry of an agent's figures
 abbrev pub entry_of : Figures → Holding
-entry_of f = pair_of (money_of f.market f.contract f.overcost (pos 0)) (energy_of f.injected f.withdrawn)
+entry_of f = pair_of (money_of f.lines) (energy_of f.injected f.withdrawn)
+
+-- points on one line alone
+abbrev pub points_alone : MoneyLine → ℤ → Holding
+points_alone line points = pair_of (money_of (alone line points)) no_energy
 
 -- points on the contract line alone
 abbrev pub contract_points : ℤ → Holding
-contract_points points = pair_of (money_of (pos 0) points (pos 0) (pos 0)) no_energy
+contract_points points = points_alone Contract points
 
 -- a holding with so many points more on its contract line
 abbrev pub with_points : ℤ → Holding → Holding
@@ -47,4 +58,4 @@ EachGets points before after =
 
 -- points on the power line alone
 abbrev pub power_points : ℤ → Holding
-power_points points = pair_of (money_of (pos 0) (pos 0) (pos 0) points) no_energy
+power_points points = points_alone Power points

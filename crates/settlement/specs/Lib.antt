@@ -1,10 +1,13 @@
+pub mod Limits
 pub mod Agents
 pub mod Lines
 pub mod Faults
 pub mod Sums
+pub mod Posting
+pub mod Setting
 pub mod ContractFaults
 pub mod Hour
-pub mod Pool
+pub mod Legs
 pub mod Holdings
 pub mod PostingFaults
 pub mod Power

@@ -1,20 +1,22 @@
 -- The lines of a posting: their limits and their rules. Assumes nothing.
-use Rattle.std.specs.Prelude.{ℕ, Bool, false, cond, ◌&&◌, Some, None, Option, ◌==◌, nat_le}
+use Rattle.std.specs.Prelude.{ℕ, Bool, false, if◌then◌else◌, ◌&&◌, Some, None, Option, ◌==◌, nat_le}
 use Rattle.forms.specs.declared.roles.Role.{Role}
 use Rattle.settlement.specs.declared.lines.Class.{Class}
 use Rattle.settlement.specs.declared.lines.Class.TheVariants.{Normal, Obligated, Forced}
 use Rattle.settlement.specs.declared.lines.Line.{Line}
 use Rattle.forms.specs.Roles.{generates}
+use Rattle.valuation.specs.Limits.{most_energy, most_price, least_factor, most_factor}
 
 -- 1 is normal, 2 obligated, 3 forced
 abbrev pub class_of : ℕ → Option Class
-class_of code = cond (code == 1) (Some Normal) (cond (code == 2) (Some Obligated) (cond (code == 3) (Some Forced) None))
+class_of code =
+    if code == 1 then Some Normal else (if code == 2 then Some Obligated else (if code == 3 then Some Forced else None))
 
--- energies are 0 to 4,000,000 kWh, node factors 50,000 to 150,000 hundred-thousandths, costs 0 to 2,000,000 micro-dollars per kWh
+-- energies, node factor and cost are within their limits
 abbrev pub line_within : Line → Bool
 line_within l =
-    nat_le l.injected 4000000 && (nat_le l.withdrawn 4000000 && (nat_le l.gross 4000000
-    && (nat_le 50000 l.factor && (nat_le l.factor 150000 && nat_le l.cost 2000000))))
+    nat_le l.injected most_energy && (nat_le l.withdrawn most_energy && (nat_le l.gross most_energy
+    && (nat_le least_factor l.factor && (nat_le l.factor most_factor && nat_le l.cost most_price))))
 
 -- an obligated or forced line is a generator's, with a gross of at least the injected energy
 abbrev pub must_run : Option Role → Line → Bool

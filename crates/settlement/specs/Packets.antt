@@ -8,39 +8,34 @@ use Rattle.settlement.specs.declared.faults.LineFault.{LineFault}
 use Rattle.settlement.specs.declared.faults.LineFault.TheVariants.{Packet}
 use Rattle.settlement.specs.declared.lines.Line.{Line}
 use Rattle.settlement.specs.declared.packet_postings.PacketPosting.{PacketPosting}
-
--- an hour to be posted: its price and its lines
-pub record PostedHour : Type 0 where
-  pub hour : ℕ
-  pub price : ℕ
-  pub lines : List Line
+use Rattle.settlement.specs.Posting.{Posting}
 
 -- the line of a posting that the line of a packet says
 abbrev pub line_in : PacketLine → Line
 line_in l = record { class = l.class; cause = l.cause; injected = l.injected; withdrawn = l.withdrawn; gross = l.gross; factor = l.factor; cost = l.cost }
 
 -- what the figures of a packet say: hour and price, and after the number of lines the lines
-abbrev pub posting_of : List ℕ → PostedHour
-posting_of figures = record {
+abbrev pub posting_by : List ℕ → Posting
+posting_by figures = record {
   hour = slice_index figures 0;
   price = slice_index figures 1;
   lines = map line_in (lines_of (slice_index figures 2) (drop 3 figures));
 }
 
 -- what bytes say: the posting of the packet that they are, or the fault of bytes that are no packet
-abbrev pub posting_in : List ℕ → Result PostedHour ByteFault
-posting_in bytes = and_then (whole hour_format bytes 0) (λ figures. Ok (posting_of figures))
+abbrev pub posting_in : List ℕ → Result Posting ByteFault
+posting_in bytes = and_then (whole hour_format bytes 0) (λ figures. Ok (posting_by figures))
 
 -- a fault of the bytes is carried whole
-abbrev pub of_bytes : Result PostedHour ByteFault → Result PostedHour LineFault
+abbrev pub of_bytes : Result Posting ByteFault → Result Posting LineFault
 of_bytes (Ok p) = Ok p
 of_bytes (Err fault) = Err (Packet fault)
 
--- the hour that a posting from a packet says: of its 64 places for lines, so many are used
-abbrev pub hour_in : PacketPosting → PostedHour
-hour_in p = record { hour = p.hour; price = p.price; lines = take p.count p.lines }
+-- the posting that came as a packet: of its places for lines, so many are used
+abbrev pub posting_with : PacketPosting → Posting
+posting_with p = record { hour = p.hour; price = p.price; lines = take p.count p.lines }
 
--- what reading a packet answers, by the hour that it says
-abbrev pub hour_read : Result PacketPosting LineFault → Result PostedHour LineFault
-hour_read (Ok p) = Ok (hour_in p)
-hour_read (Err fault) = Err fault
+-- what reading a packet answers, by the posting that it says
+abbrev pub posting_read : Result PacketPosting LineFault → Result Posting LineFault
+posting_read (Ok p) = Ok (posting_with p)
+posting_read (Err fault) = Err fault

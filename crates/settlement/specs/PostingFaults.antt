@@ -1,30 +1,43 @@
 -- The faults of a posting's own figures, against the agents and the length of the month. Assumes nothing.
 use Rattle.std.specs.Prelude.{◌≡◌, ℕ, ◌+◌, ◌<◌, ◌≤◌, Bool, true, not, ◌&&◌, ◌||◌, List, [], ◌∷◌, length, sum, Option, ◌==◌, nat_le, nat_lt}
 use Rattle.std.specs.Option.{option_map}
+use Rattle.tally.specs.Failing.{first_failing}
+use Rattle.forms.specs.Limits.{most_agents}
+use Rattle.valuation.specs.Limits.{most_energy, most_price}
 use Rattle.settlement.specs.declared.agents.Agent.{Agent}
-use Rattle.settlement.specs.declared.lines.Line.{Line}
+use Rattle.settlement.specs.declared.faults.BookFault.{BookFault}
+use Rattle.settlement.specs.declared.faults.BookFault.TheVariants.{NoCarrier}
 use Rattle.settlement.specs.declared.faults.LineFault.{LineFault}
 use Rattle.settlement.specs.declared.faults.LineFault.TheVariants.{HourOutside, OutsideLimit, BreaksRule, TooMuchTogether}
-use Rattle.settlement.specs.Faults.{met_if, first_met}
-use Rattle.settlement.specs.Hour.{line_at, role_at, obligated_sum, weights_of}
+use Rattle.settlement.specs.declared.lines.Line.{Line}
+use Rattle.settlement.specs.Agents.{role_at}
+use Rattle.settlement.specs.Faults.{met_if, first_met, of_posting}
+use Rattle.settlement.specs.Hour.{obligated_sum, weights_of}
 use Rattle.settlement.specs.Lines.{line_within, line_kept}
-use Rattle.settlement.specs.Sums.{sum_to, first_failing}
+use Rattle.settlement.specs.Posting.{Posting, line_at}
+use Rattle.settlement.specs.Setting.{Setting, hours_in}
+use Rattle.settlement.specs.Sums.{sum_to}
 
 -- 4: the hour lies outside a month of so many hours
 abbrev pub hour_fault : (hours hour : ℕ) → Option LineFault
 hour_fault hours hour = met_if (nat_le hours hour) (HourOutside hour)
 
--- 5 at place 0: another number of lines than agents, or a price above 2,000,000 micro-dollars per kWh
-abbrev pub head_fault : (count price : ℕ) → List Line → Option LineFault
-head_fault count price lines = met_if (not (length lines == count) || nat_lt 2000000 price) (OutsideLimit 0)
+-- 5 at place 0: another number of lines than agents, or a price above its limit
+abbrev pub head_fault : (count : ℕ) → Posting → Option LineFault
+head_fault count p = met_if (not (length p.lines == count) || nat_lt most_price p.price) (OutsideLimit 0)
 
 -- 5: the first line, from 1, with a figure outside its limit
 abbrev pub limit_fault : List Line → Option LineFault
-limit_fault lines = option_map (λ i. OutsideLimit (i + 1)) (first_failing (λ i. line_within (line_at lines i)) 0 (length lines))
+limit_fault lines =
+    option_map (λ i. OutsideLimit (i + 1)) (first_failing (λ i. line_within (line_at lines i)) 0 (length lines))
+
+-- the line at a place keeps the rule of its class
+abbrev pub kept_at : List Agent → List Line → ℕ → Bool
+kept_at agents lines i = line_kept (length agents) (role_at agents i) (line_at lines i)
 
 -- 6: the first line, from 1, that breaks the rule of its class
-abbrev pub rule_fault : ℕ → List Agent → List Line → Option LineFault
-rule_fault count agents lines = option_map (λ i. BreaksRule (i + 1)) (first_failing (λ i. line_kept count (role_at agents i) (line_at lines i)) 0 (length lines))
+abbrev pub rule_fault : List Agent → List Line → Option LineFault
+rule_fault agents lines = option_map (λ i. BreaksRule (i + 1)) (first_failing (kept_at agents lines) 0 (length lines))
 
 -- all injected and all withdrawn energy of the hour
 abbrev pub injected_together : List Line → ℕ
@@ -33,23 +46,32 @@ injected_together lines = sum_to (length lines) (λ i. (line_at lines i).injecte
 abbrev pub withdrawn_together : List Line → ℕ
 withdrawn_together lines = sum_to (length lines) (λ i. (line_at lines i).withdrawn)
 
--- 7: all injected or all withdrawn energy is above 4,000,000 kWh
+-- 7: all injected or all withdrawn energy is above the limit of an hour
 abbrev pub together_fault : List Line → Option LineFault
-together_fault lines = met_if (nat_lt 4000000 (injected_together lines) || nat_lt 4000000 (withdrawn_together lines)) TooMuchTogether
+together_fault lines =
+    met_if (nat_lt most_energy (injected_together lines) || nat_lt most_energy (withdrawn_together lines)) TooMuchTogether
 
 -- the first fault of a posting's own figures, in the order of the numbers
-abbrev pub line_fault : (count hours : ℕ) → List Agent → (hour price : ℕ) → List Line → Option LineFault
-line_fault count hours agents hour price lines =
-    first_met (hour_fault hours hour ∷ head_fault count price lines ∷ limit_fault lines ∷ rule_fault count agents lines ∷ together_fault lines ∷ [])
+abbrev pub line_fault : Setting → Posting → Option LineFault
+line_fault setting p =
+    first_met (hour_fault (hours_in setting) p.hour ∷ head_fault (length setting.agents) p ∷ limit_fault p.lines
+    ∷ rule_fault setting.agents p.lines ∷ together_fault p.lines ∷ [])
 
 -- 8: there is obligated excess, and no weight carries it
-abbrev pub uncarried : List Agent → ℕ → List Line → Bool
-uncarried agents price lines = nat_lt 0 (obligated_sum price lines) && sum (weights_of agents lines) == 0
+abbrev pub uncarried : List Agent → Posting → Bool
+uncarried agents p = nat_lt 0 (obligated_sum p) && sum (weights_of agents p.lines) == 0
 
--- the figures of a posting that faults 5 to 7 let pass, as far as valuing asks: few lines, a price and lines within their limits, and so
--- all withdrawn energy together
-pub record Measured (price : ℕ) (lines : List Line) : Type 0 where
-  pub few_lines : length lines ≤ 64
-  pub price_within : price ≤ 2000000
-  pub each_within : (i : ℕ) → i < length lines → line_within (line_at lines i) ≡ true
-  pub withdrawn_within : withdrawn_together lines ≤ 4000000
+-- the faults of a posting: its own, and then that nothing carries its excess
+abbrev pub posting_faults : Setting → Posting → List (Option BookFault)
+posting_faults setting p = of_posting (line_fault setting p) ∷ met_if (uncarried setting.agents p) NoCarrier ∷ []
+
+abbrev pub posting_fault : Setting → Posting → Option BookFault
+posting_fault setting p = first_met (posting_faults setting p)
+
+-- the figures of a posting that faults 5 to 7 let pass, as far as valuing asks: few lines, a price and lines within their limits, and
+-- so all withdrawn energy together
+pub record PostingFits (p : Posting) : Type 0 where
+  pub few_lines : length p.lines ≤ most_agents
+  pub price_within : p.price ≤ most_price
+  pub each_within : (i : ℕ) → i < length p.lines → line_within (line_at p.lines i) ≡ true
+  pub withdrawn_within : withdrawn_together p.lines ≤ most_energy

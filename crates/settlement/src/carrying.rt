@@ -1,12 +1,13 @@
 //! Points that are carried over withdrawn energy, by distributors and large consumers alone.
 ghost use Rattle.std.specs.Prelude.{◌≡◌, ℕ, ◌<◌, ◌≤◌, ◌^◌, ◌&&◌, ◌==◌, length, nat_lt, sum};
+ghost use Rattle.forms.specs.Limits.{most_agents};
 ghost use Rattle.settlement.specs.Hour.{weights_in};
+ghost use Rattle.settlement.specs.Limits.{most_points};
 ghost use Rattle.valuation.specs.Sharing.{parts_of};
 
 use valuation::share;
 
 /// Points to be carried by agents, each by its weight.
-// Kept as clauses, `few` and `bound`: no law over any `Self` says the bound, since it is that of figures of 32 bits, which are any numbers there; and `few` as a law would be proved in each impl to spare one clause.
 pub(crate) trait Carried {
     /// How many agents there are.
     ghost agents: { Self → ℕ };
@@ -20,7 +21,7 @@ pub(crate) trait Carried {
     /// How many agents there are.
     fn agents(&self) -> usize
         ensures value { result ≡ agents self.now }
-        ensures few { result ≤ 64 };
+        ensures few { result ≤ most_agents };
 
     /// The weight of the agent at a place.
     fn weight(&self, index: usize) -> u32
@@ -30,16 +31,14 @@ pub(crate) trait Carried {
     /// The points.
     fn points(&self) -> u64
         ensures value { result ≡ points self.now }
-        ensures bound { result ≤ 1000000000000000000 };
+        ensures bound { result ≤ most_points };
 }
 
 /// Writes the weight of each agent to its place.
-// Kept as a clause, here and below: the weights lie in memory lent for the call, as long as there are agents.
 fn fill_weights<C: Carried>(carried: &C, weights: &mut [u32])
     requires { length weights.old ≡ C.agents carried.now }
     ensures { weights.new ≡ weights_in (C.agents carried.now) (C.weight carried.now) }
 {
-    // Kept by index: one loop serves lines and accounts alike, and a trait hands out no iterator over either.
     for (i, weight) in weights.iter_mut().enumerate() {
         *weight = carried.weight(i);
     }
@@ -47,7 +46,7 @@ fn fill_weights<C: Carried>(carried: &C, weights: &mut [u32])
 
 /// All weights together.
 fn together(weights: &[u32]) -> u64
-    requires { length weights.now ≤ 64 }
+    requires { length weights.now ≤ most_agents }
     ensures { result ≡ sum weights.now }
 {
     weights.iter().map(|weight| u64::from(*weight)).sum()
@@ -56,8 +55,9 @@ fn together(weights: &[u32]) -> u64
 /// Whether there are points, and no weight carries them; the weights are scratch memory.
 fn is_uncarried_by<C: Carried>(carried: &C, weights: &mut [u32]) -> bool
     requires long { length weights.old ≡ C.agents carried.now }
-    requires few { length weights.old ≤ 64 }
-    ensures { result ≡ (nat_lt 0 (C.points carried.now) && sum (weights_in (C.agents carried.now) (C.weight carried.now)) == 0) }
+    requires few { length weights.old ≤ most_agents }
+    ensures { let weights = weights_in (C.agents carried.now) (C.weight carried.now) in
+        result ≡ (nat_lt 0 (C.points carried.now) && sum weights == 0) }
 {
     fill_weights(carried, weights);
     carried.points() > 0 && together(weights) == 0
@@ -65,9 +65,9 @@ fn is_uncarried_by<C: Carried>(carried: &C, weights: &mut [u32]) -> bool
 
 /// Whether there are points, and no weight carries them.
 pub(crate) fn is_uncarried<C: Carried>(carried: &C) -> bool
-    ensures { result ≡ (nat_lt 0 (C.points carried.now) && sum (weights_in (C.agents carried.now) (C.weight carried.now)) == 0) }
+    ensures { let weights = weights_in (C.agents carried.now) (C.weight carried.now) in
+        result ≡ (nat_lt 0 (C.points carried.now) && sum weights == 0) }
 {
-    // Kept as an array, here and in `fill_parts`: the library allocates nothing.
     let mut weights = [0u32; 64];
     is_uncarried_by(carried, &mut weights[..carried.agents()])
 }
@@ -77,8 +77,9 @@ fn fill_parts_by<C: Carried>(carried: &C, weights: &mut [u32], parts: &mut [u64]
     requires long { length weights.old ≡ C.agents carried.now }
     requires parts_long { length parts.old ≡ C.agents carried.now }
     requires limit { sum (weights_in (C.agents carried.now) (C.weight carried.now)) < 2 ^ 32 }
-    ensures value { parts.new ≡ parts_of (C.points carried.now) (weights_in (C.agents carried.now) (C.weight carried.now)) }
-    ensures bound { C.points carried.now ≤ 1000000000000000000 }
+    ensures value { let weights = weights_in (C.agents carried.now) (C.weight carried.now) in
+        parts.new ≡ parts_of (C.points carried.now) weights }
+    ensures bound { C.points carried.now ≤ most_points }
 {
     fill_weights(carried, weights);
     share(carried.points(), weights, parts);
@@ -88,8 +89,9 @@ fn fill_parts_by<C: Carried>(carried: &C, weights: &mut [u32], parts: &mut [u64]
 pub(crate) fn fill_parts<C: Carried>(carried: &C, parts: &mut [u64])
     requires long { length parts.old ≡ C.agents carried.now }
     requires limit { sum (weights_in (C.agents carried.now) (C.weight carried.now)) < 2 ^ 32 }
-    ensures value { parts.new ≡ parts_of (C.points carried.now) (weights_in (C.agents carried.now) (C.weight carried.now)) }
-    ensures bound { C.points carried.now ≤ 1000000000000000000 }
+    ensures value { let weights = weights_in (C.agents carried.now) (C.weight carried.now) in
+        parts.new ≡ parts_of (C.points carried.now) weights }
+    ensures bound { C.points carried.now ≤ most_points }
 {
     let mut weights = [0u32; 64];
     fill_parts_by(carried, &mut weights[..carried.agents()], parts);

@@ -1,48 +1,37 @@
-//! What a posting gives each agent at its hour.
-ghost use Rattle.std.specs.Prelude.{◌≡◌, ◌<◌, ◌≤◌, true, map, length};
+//! What a posting's own lines give each agent at its hour.
+ghost use Rattle.std.specs.Prelude.{◌≡◌, ℕ, ◌<◌, ◌≤◌, true, map, length};
 ghost use Rattle.std.specs.List.{range_with_len};
 ghost use Rattle.std.specs.Result.{result_err};
-ghost use Rattle.forms.specs.Roles.{role_of};
+ghost use Rattle.forms.specs.Limits.{most_agents};
 ghost use Rattle.settlement.specs.Faults.{met_if};
 ghost use Rattle.settlement.specs.Holdings.{entry_of};
-ghost use Rattle.settlement.specs.Hour.{obligated_sum, caused_sum, weight_for, weight_at, own_of};
+ghost use Rattle.settlement.specs.Hour.{obligated_sum, caused_sum, weight_at, own_of};
+ghost use Rattle.settlement.specs.Limits.{most_excess};
 ghost use Rattle.settlement.specs.Lines.{line_within};
+ghost use Rattle.settlement.specs.Posting.{posting_of};
 ghost use Rattle.settlement.specs.PostingFaults.{uncarried};
 
-use crate::agents::Agent;
 use crate::carrying::{Carried, fill_parts, is_uncarried};
 use crate::faults::BookFault;
-use crate::holdings::Entry;
+use crate::holdings::Holding;
 use crate::lines::Line;
-use crate::postings::MeasuredPosting;
+use crate::postings::CheckedPosting;
 use crate::priced::PricedLine;
 
-impl Agent {
-    /// The energy by which it carries what the pool pays, where it withdrew so much.
-    pub(crate) fn weight(&self, withdrawn: u32) -> u32
-        ensures { result ≡ weight_for (role_of self.now.role) withdrawn }
-    {
-        match self.known_role() {
-            Some(role) if role.is_carrier() => withdrawn,
-            Some(_) | None => 0,
-        }
-    }
-}
-
 /// The hour's obligated excess, which is carried over the hour's withdrawn energy.
-impl Carried for MeasuredPosting<'_> {
-    ghost agents = { λ posting. length posting.lines.now };
+impl Carried for CheckedPosting<'_> {
+    ghost agents = { λ checked. length checked.posting.lines.now };
 
-    ghost weight = { λ posting. weight_at posting.agents.now posting.lines.now };
+    ghost weight = { λ checked. weight_at checked.agents.now checked.posting.lines.now };
 
-    ghost points = { λ posting. obligated_sum posting.price posting.lines.now };
+    ghost points = { λ checked. obligated_sum (posting_of checked.posting) };
 
     fn agents(&self) -> usize {
-        self.lines.len()
+        self.posting.lines.len()
     }
 
     fn weight(&self, index: usize) -> u32 {
-        self.agents[index].weight(self.lines[index].withdrawn)
+        self.agents[index].weight(self.posting.lines[index].withdrawn)
     }
 
     fn points(&self) -> u64 {
@@ -50,25 +39,26 @@ impl Carried for MeasuredPosting<'_> {
     }
 }
 
-impl MeasuredPosting<'_> {
+impl CheckedPosting<'_> {
     /// A line at the hour's price.
     fn priced<'b>(&self, line: &'b Line) -> PricedLine<'b>
         requires { line_within line.now ≡ true }
-        ensures price { result.price ≡ self.now.price }
+        ensures price { result.price ≡ self.now.posting.price }
         ensures line { result.line.now ≡ line.now }
     {
         PricedLine {
-            price: self.price,
+            price: self.posting.price,
             line,
         }
     }
 
     /// The hour's obligated excess, all lines together.
     fn obligated_excess(&self) -> u64
-        ensures value { result ≡ obligated_sum self.now.price self.now.lines.now }
-        ensures bound { result ≤ 5120000000000 }
+        ensures value { result ≡ obligated_sum (posting_of self.now.posting) }
+        ensures bound { result ≤ most_excess }
     {
-        self.lines
+        self.posting
+            .lines
             .iter()
             .map(|line| self.priced(line).obligated())
             .sum()
@@ -76,11 +66,12 @@ impl MeasuredPosting<'_> {
 
     /// The forced excess that the agent at place `index` caused.
     fn caused_excess(&self, index: usize) -> u64
-        requires index_small { index < 64 }
-        ensures value { result ≡ caused_sum self.now.price self.now.lines.now index }
-        ensures bound { result ≤ 5120000000000 }
+        requires index_small { index < most_agents }
+        ensures value { result ≡ caused_sum (posting_of self.now.posting) index }
+        ensures bound { result ≤ most_excess }
     {
-        self.lines
+        self.posting
+            .lines
             .iter()
             .map(|line| self.priced(line).caused_by(index))
             .sum()
@@ -88,7 +79,8 @@ impl MeasuredPosting<'_> {
 
     /// Refuses obligated excess that no withdrawn energy carries.
     pub fn check_carriers(&self) -> Result<(), BookFault>
-        ensures { result_err result ≡ met_if (uncarried self.now.agents.now self.now.price self.now.lines.now) BookFault.NoCarrier }
+        ensures { let lacks = uncarried self.now.agents.now (posting_of self.now.posting) in
+            result_err result ≡ met_if lacks BookFault.NoCarrier }
     {
         if is_uncarried(self) {
             return Err(BookFault::NoCarrier);
@@ -97,25 +89,25 @@ impl MeasuredPosting<'_> {
     }
 
     /// Writes the entry of each agent, contracts aside, to its place; the parts are scratch memory.
-    fn fill_entries_by(&self, parts: &mut [u64], fresh: &mut [Entry])
-        requires parts_long { length parts.old ≡ length self.now.lines.now }
-        requires fresh_long { length fresh.old ≡ length self.now.lines.now }
-        ensures { fresh.new ≡ map (λ i. entry_of (own_of self.now.agents.now self.now.price self.now.lines.now i)) (range_with_len 0 (length self.now.lines.now)) }
+    fn fill_entries_by(&self, parts: &mut [u64], fresh: &mut [Holding])
+        requires parts_long { length parts.old ≡ length self.now.posting.lines.now }
+        requires fresh_long { length fresh.old ≡ length self.now.posting.lines.now }
+        ensures { let own = λ (i : ℕ). entry_of (own_of self.now.agents.now (posting_of self.now.posting) i) in
+            fresh.new ≡ map own (range_with_len 0 (length self.now.posting.lines.now)) }
     {
         fill_parts(self, parts);
-        // Kept by index: in a `for` over a zip with `iter_mut` (tried) nothing is known of what was written, and `iter_mut().enumerate()` is no plainer, since it reads lines and parts by index.
-        for (i, line) in self.lines.iter().enumerate() {
+        for (i, line) in self.posting.lines.iter().enumerate() {
             fresh[i] = self.priced(line).entry(self.caused_excess(i), parts[i]);
         }
     }
 
     /// Writes the entry of each agent, contracts aside, to its place.
-    pub fn fill_entries(&self, fresh: &mut [Entry])
-        requires { length fresh.old ≡ length self.now.lines.now }
-        ensures { fresh.new ≡ map (λ i. entry_of (own_of self.now.agents.now self.now.price self.now.lines.now i)) (range_with_len 0 (length self.now.lines.now)) }
+    pub(crate) fn fill_entries(&self, fresh: &mut [Holding])
+        requires { length fresh.old ≡ length self.now.posting.lines.now }
+        ensures { let own = λ (i : ℕ). entry_of (own_of self.now.agents.now (posting_of self.now.posting) i) in
+            fresh.new ≡ map own (range_with_len 0 (length self.now.posting.lines.now)) }
     {
-        // Kept as an array: the library allocates nothing.
         let mut parts = [0u64; 64];
-        self.fill_entries_by(&mut parts[..self.lines.len()], fresh);
+        self.fill_entries_by(&mut parts[..self.posting.lines.len()], fresh);
     }
 }

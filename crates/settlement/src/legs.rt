@@ -1,47 +1,39 @@
 //! What contracts put on their parties' contract lines, and so all that an hour gives.
-ghost use Rattle.std.specs.Prelude.{◌≡◌, ◌+◌, ◌*◌, ◌≤◌, true, map, length, pos, if◌then◌else◌, nat_eq};
+ghost use Rattle.std.specs.Prelude.{◌≡◌, ℕ, ◌+◌, ◌≤◌, true, map, length, pos, if◌then◌else◌, nat_eq};
 ghost use Rattle.std.specs.List.{range_with_len, list_all};
-ghost use Rattle.calendar.specs.Weekdays.{number_of};
 ghost use Rattle.forms.specs.Meaning.{Balanced};
-ghost use Rattle.forms.specs.Roles.{role_of};
-ghost use Rattle.settlement.specs.ContractFaults.{PartiesKnown, contract_fits, place_fits};
-ghost use Rattle.settlement.specs.Holdings.{contract_points, with_points, EachGets, entry_of};
-ghost use Rattle.settlement.specs.Pool.{pool_of, distributed_by, distributors_withdrawn, facts_of, legs_of, leg_for, leg_in, contract_line, hour_of};
+ghost use Rattle.forms.specs.Parties.{legs_by_party};
+ghost use Rattle.settlement.specs.ContractFaults.{PartiesKnown, contract_fits, place_fits, covers};
+ghost use Rattle.settlement.specs.Holdings.{with_points, EachGets, entry_of};
+ghost use Rattle.settlement.specs.Legs.{distributors_withdrawn, facts_of, legs_of, is_number, given_to, given_in, contract_line, hour_of};
+ghost use Rattle.settlement.specs.Posting.{posting_of};
+ghost use Rattle.settlement.specs.PostingFaults.{PostingFits};
+ghost use Rattle.settlement.specs.Setting.{setting_of};
+ghost use Rattle.std.proofs.Props.{props};
 
-use crate::agents::Agent;
-use crate::holdings::Entry;
-use crate::postings::MeasuredPosting;
-use crate::terms::{does_cover, parties};
-use calendar::Weekday;
-use forms::{Contract, ContractForm, ContractHour, Facts, Legs, Role, settle_hour};
-use tally::{Energy, Money, Pair, Tally};
+use crate::holdings::{Holding, points_alone};
+use crate::postings::{CheckedPosting, Posting};
+use crate::settings::Setting;
+use calendar::HourStamp;
+use forms::{Contract, ContractForm, ContractHour, Facts, Legs, settle_hour};
+use tally::{MoneyLine, Tally};
 
-/// An entry with points on its contract line alone.
-// Kept beside `power_points`: each is one literal, and one function for both would be given all four lines.
-fn contract_points(points: i64) -> Entry
-    ensures { result ≡ contract_points points }
+/// Whether a contract covers an hour.
+pub fn does_cover(contract: Contract, hour: u32) -> bool
+    ensures { result ≡ covers contract hour }
 {
-    Pair {
-        first: Money {
-            market: 0,
-            contract: points,
-            overcost: 0,
-            power: 0,
-        },
-        second: Energy::neutral(),
-    }
+    contract.first <= hour && hour <= contract.last
 }
 
 /// Puts points on the contract line of an entry.
-fn put_points(entry: &mut Entry, points: i64)
+fn put_points(entry: &mut Holding, points: i64)
     ensures { entry.new ≡ with_points points entry.old }
 {
-    *entry = entry.join(contract_points(points));
+    *entry = entry.join(points_alone(MoneyLine::Contract, points));
 }
 
 /// Puts points on the contract line of the agent with this number.
-// Kept as a clause of the length, here and below: the entries lie in memory lent for the call.
-fn put_leg(number: u32, points: i64, fresh: &mut [Entry])
+fn put_leg(number: u32, points: i64, fresh: &mut [Holding])
     requires some { 1 ≤ number }
     requires known { number ≤ length fresh.old }
     ensures { EachGets (λ i. if nat_eq number (i + 1) then points else pos 0) fresh.old fresh.new }
@@ -49,50 +41,48 @@ fn put_leg(number: u32, points: i64, fresh: &mut [Entry])
     put_points(&mut fresh[number as usize - 1], points);
 }
 
-/// Puts the legs of a contract on the contract lines of its parties.
-fn put_legs(contract: Contract, legs: Legs, fresh: &mut [Entry])
-    requires known { PartiesKnown (length fresh.old) contract }
-    requires balanced { Balanced legs }
-    ensures { EachGets (λ i. leg_for contract legs i) fresh.old fresh.new }
+/// The legs of a contract, each with its party's number.
+fn legs_by_party(contract: Contract, legs: Legs) -> [(u32, i64); 2]
+    ensures { result ≡ legs_by_party contract legs }
 {
-    put_leg(contract.seller, legs.seller, fresh);
-    put_leg(contract.buyer, legs.buyer, fresh);
+    [(contract.seller, legs.seller), (contract.buyer, legs.buyer)]
 }
 
-impl Agent {
-    /// The energy that it withdrew, if it is a distributor.
-    // Kept beside `weight`: each is one test of the role, and one function for both would be given the test as a closure, which its contract would have to name.
-    fn distributed(&self, withdrawn: u32) -> u32
-        ensures { result ≡ distributed_by (role_of self.now.role) withdrawn }
-    {
-        match self.known_role() {
-            Some(Role::Distributor) => withdrawn,
-            Some(Role::Generator | Role::Consumer) | None => 0,
-        }
+/// Puts the legs of a contract on the contract lines of its parties.
+fn put_legs(contract: Contract, legs: Legs, fresh: &mut [Holding])
+    requires known { PartiesKnown (length fresh.old) contract }
+    requires balanced { Balanced legs }
+    ensures { EachGets (λ i. given_to (is_number i) (legs_by_party contract legs)) fresh.old fresh.new }
+{
+    for (number, points) in &legs_by_party(contract, legs) {
+        put_leg(*number, *points, fresh);
     }
 }
 
-/// A posting, with the form of the contracts that cover its hour, the month's first weekday, and the energy that all distributors
-/// withdrew.
+/// An hour with what it is settled with, its posting, and the energy that all distributors withdrew.
 #[derive(Drop)]
-struct HourPool<'a, F> {
-    form: &'a F,
-    weekday: Weekday,
-    posting: MeasuredPosting<'a>,
+struct HourSetting<'a, F> {
+    setting: &'a Setting<'a, F>,
+    stamp: HourStamp,
+    posting: Posting<'a>,
     distributors: u32,
-    ghost distributed: { distributors ≡ distributors_withdrawn posting.agents.now posting.lines.now },
+    ghost stamped: { (stamp.hour ≡ posting.hour) × (stamp.calendar ≡ setting.now.calendar) } by { Prim.hlevel props },
+    ghost fits: { PostingFits (posting_of posting) } by { Prim.hlevel props },
+    ghost agents_long: { length setting.now.agents.now ≡ length posting.lines.now },
+    ghost distributed: { distributors ≡ distributors_withdrawn setting.now.agents.now posting.lines.now },
 }
 
-impl<F: ContractForm> HourPool<'_, F> {
+impl<F: ContractForm> HourSetting<'_, F> {
     /// What a contract is settled by in the hour.
     fn facts(&self, contract: Contract) -> Facts
         requires { PartiesKnown (length self.now.posting.lines.now) contract }
-        ensures { result ≡ facts_of (number_of self.now.weekday) self.now.posting.agents.now self.now.posting.stamp.hour self.now.posting.price self.now.posting.lines.now contract }
+        ensures { let setting = setting_of (F.meaning self.now.setting.now.form.now) self.now.setting.now in
+            result ≡ facts_of setting (posting_of self.now.posting) contract }
     {
         let seller = self.posting.lines[contract.seller as usize - 1];
         let buyer = self.posting.lines[contract.buyer as usize - 1];
         Facts {
-            band: self.posting.stamp.band(self.weekday),
+            band: self.stamp.band(),
             price: self.posting.price,
             seller_factor: seller.factor,
             buyer_factor: buyer.factor,
@@ -104,72 +94,79 @@ impl<F: ContractForm> HourPool<'_, F> {
 
     /// What a contract gives its parties in the hour, where it covers it.
     fn legs_of(&self, contract: Contract) -> Legs
-        requires { contract_fits (F.meaning self.now.form.now) (24 * self.now.posting.stamp.days) self.now.posting.agents.now contract ≡ true }
-        ensures value { result ≡ legs_of (F.meaning self.now.form.now) (number_of self.now.weekday) self.now.posting.agents.now self.now.posting.stamp.hour self.now.posting.price self.now.posting.lines.now contract }
+        requires { let setting = setting_of (F.meaning self.now.setting.now.form.now) self.now.setting.now in
+            contract_fits setting contract ≡ true }
+        ensures value { let setting = setting_of (F.meaning self.now.setting.now.form.now) self.now.setting.now in
+            result ≡ legs_of setting (posting_of self.now.posting) contract }
         ensures balanced { Balanced result }
     {
-        let parties = parties(self.posting.agents, contract);
+        let parties = self.setting.parties(contract);
         let hour = ContractHour::new(contract, parties, self.facts(contract));
-        settle_hour(self.form, hour)
+        settle_hour(self.setting.form, hour)
     }
 
     /// Puts what a contract place comes to in the hour on the contract lines: the legs of a contract that covers it.
-    fn put_place(&self, place: &Option<Contract>, fresh: &mut [Entry])
+    fn put_place(&self, place: &Option<Contract>, fresh: &mut [Holding])
         requires fresh_long { length fresh.old ≡ length self.now.posting.lines.now }
-        requires fits { place_fits (F.meaning self.now.form.now) (24 * self.now.posting.stamp.days) self.now.posting.agents.now place.now ≡ true }
-        ensures { EachGets (λ i. leg_in (F.meaning self.now.form.now) (number_of self.now.weekday) self.now.posting.agents.now self.now.posting.stamp.hour self.now.posting.price self.now.posting.lines.now i place.now) fresh.old fresh.new }
+        requires fits { let setting = setting_of (F.meaning self.now.setting.now.form.now) self.now.setting.now in
+            place_fits setting place.now ≡ true }
+        ensures { let setting = setting_of (F.meaning self.now.setting.now.form.now) self.now.setting.now in
+            let given = λ (i : ℕ). given_in (is_number i) setting (posting_of self.now.posting) place.now in
+            EachGets given fresh.old fresh.new }
     {
         if let Some(contract) = place {
-            if does_cover(*contract, self.posting.stamp.hour()) {
+            if does_cover(*contract, self.posting.hour) {
                 put_legs(*contract, self.legs_of(*contract), fresh);
             }
         }
     }
 
     /// Puts the legs of every contract that covers the hour on the contract lines of its parties.
-    fn put_contracts(&self, contracts: &[Option<Contract>], fresh: &mut [Entry])
-        requires fit { list_all (place_fits (F.meaning self.now.form.now) (24 * self.now.posting.stamp.days) self.now.posting.agents.now) contracts.now ≡ true }
+    fn put_contracts(&self, fresh: &mut [Holding])
+        requires fit { let setting = setting_of (F.meaning self.now.setting.now.form.now) self.now.setting.now in
+            list_all (place_fits setting) self.now.setting.now.contracts.now ≡ true }
         requires fresh_long { length fresh.old ≡ length self.now.posting.lines.now }
-        ensures { EachGets (λ i. contract_line (pool_of (F.meaning self.now.form.now) (number_of self.now.weekday) self.now.posting.agents.now contracts.now) self.now.posting.stamp.hour self.now.posting.price self.now.posting.lines.now i) fresh.old fresh.new }
+        ensures { let setting = setting_of (F.meaning self.now.setting.now.form.now) self.now.setting.now in
+            EachGets (contract_line setting (posting_of self.now.posting)) fresh.old fresh.new }
     {
-        for place in contracts {
+        for place in self.setting.contracts {
             self.put_place(place, fresh);
         }
     }
 }
 
-impl MeasuredPosting<'_> {
+impl CheckedPosting<'_> {
     /// The energy that all distributors withdrew.
     fn distributors_withdrawn(&self) -> u32
-        ensures { result ≡ distributors_withdrawn self.now.agents.now self.now.lines.now }
+        ensures { result ≡ distributors_withdrawn self.now.agents.now self.now.posting.lines.now }
     {
-        let each = self.lines.iter().zip(self.agents);
+        let each = self.posting.lines.iter().zip(self.agents);
         let all: u64 = each
             .map(|(line, agent)| u64::from(agent.distributed(line.withdrawn)))
             .sum();
         all as u32
     }
+}
 
-    /// Writes what the posting gives each agent at its hour, with the legs of the contracts that cover it, to its place. `first` is the
-    /// month's first weekday.
-    pub fn fill_hour<F: ContractForm>(
-        &self,
-        form: &F,
-        first: Weekday,
-        contracts: &[Option<Contract>],
-        fresh: &mut [Entry],
-    )
-        requires fit { list_all (place_fits (F.meaning form.now) (24 * self.now.stamp.days) self.now.agents.now) contracts.now ≡ true }
-        requires fresh_long { length fresh.old ≡ length self.now.lines.now }
-        ensures { fresh.new ≡ map (λ i. entry_of (hour_of (pool_of (F.meaning form.now) (number_of first) self.now.agents.now contracts.now) self.now.stamp.hour self.now.price self.now.lines.now i)) (range_with_len 0 (length self.now.lines.now)) }
+impl<F: ContractForm> Setting<'_, F> {
+    /// Writes what a posting gives each agent at its hour, with the legs of the contracts that cover it, to its place.
+    pub fn fill_hour(&self, checked: &CheckedPosting<'_>, fresh: &mut [Holding])
+        requires agents { checked.now.agents.now ≡ self.now.agents.now }
+        requires calendar { checked.now.stamp.calendar ≡ self.now.calendar }
+        requires fit { let setting = setting_of (F.meaning self.now.form.now) self.now in
+            list_all (place_fits setting) self.now.contracts.now ≡ true }
+        requires fresh_long { length fresh.old ≡ length checked.now.posting.lines.now }
+        ensures { let setting = setting_of (F.meaning self.now.form.now) self.now in
+            let entry = λ (i : ℕ). entry_of (hour_of setting (posting_of checked.now.posting) i) in
+            fresh.new ≡ map entry (range_with_len 0 (length checked.now.posting.lines.now)) }
     {
-        self.fill_entries(fresh);
-        let pool = HourPool {
-            form,
-            weekday: first,
-            posting: *self,
-            distributors: self.distributors_withdrawn(),
+        checked.fill_entries(fresh);
+        let hour = HourSetting {
+            setting: self,
+            stamp: checked.stamp,
+            posting: checked.posting,
+            distributors: checked.distributors_withdrawn(),
         };
-        pool.put_contracts(contracts, fresh);
+        hour.put_contracts(fresh);
     }
 }

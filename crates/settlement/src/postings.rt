@@ -1,43 +1,55 @@
 //! Postings whose own figures are in order, and what is wrong with those of others.
-ghost use Rattle.std.specs.Prelude.{◌≡◌, ◌*◌, ◌≤◌, length, IfOk, OnOk};
+ghost use Rattle.std.specs.Prelude.{◌≡◌, ◌≤◌, length, IfOk, OnOk};
 ghost use Rattle.std.specs.Result.{result_err};
 ghost use Rattle.std.proofs.Props.{props};
-ghost use Rattle.settlement.specs.PostingFaults.{hour_fault, head_fault, limit_fault, rule_fault, together_fault, line_fault, injected_together, withdrawn_together, Measured};
+ghost use Rattle.calendar.specs.Limits.{most_days, hours_of};
+ghost use Rattle.forms.specs.Limits.{most_agents};
+ghost use Rattle.settlement.specs.Posting.{posting_of};
+ghost use Rattle.settlement.specs.PostingFaults.{PostingFits, hour_fault, head_fault};
 
 use crate::agents::Agent;
 use crate::faults::LineFault;
 use crate::lines::Line;
-use calendar::HourStamp;
+use crate::settings::Setting;
+use calendar::{Calendar, HourStamp};
+use forms::{ContractForm, Role};
 use valuation::{MOST_ENERGY, MOST_PRICE};
 
-/// A posting of an hour, with the agents of its book: one line for each agent, and the price, each line and all lines together within their
+/// A posting as the host lends it: an hour, its price and a line for each agent, raw figures, any at all.
+#[derive(Clone, Copy)]
+pub struct Posting<'a> {
+    pub hour: u32,
+    pub price: u32,
+    pub lines: &'a [Line],
+}
+
+/// A posting with the agents of its book: one line for each agent, and the price, each line and all lines together within their
 /// limits.
 #[derive(Clone, Copy)]
-pub struct MeasuredPosting<'a> {
+pub struct CheckedPosting<'a> {
     pub stamp: HourStamp,
-    pub price: u32,
-    // Kept beside one another, here and in `PostedLines`: the host fills in both, each in memory that it lends.
-    pub lines: &'a [Line],
+    pub posting: Posting<'a>,
     pub agents: &'a [Agent],
-    pub ghost measured: { Measured price lines.now } by { Prim.hlevel props },
-    pub ghost agents_long: { length agents.now ≡ length lines.now },
+    pub ghost stamped: { stamp.hour ≡ posting.hour },
+    pub ghost fits: { PostingFits (posting_of posting) } by { Prim.hlevel props },
+    pub ghost agents_long: { length agents.now ≡ length posting.lines.now },
 }
 
 /// The stamp of an hour of the month, or a refusal where it lies outside.
-// Kept as a clause, here and in `check_posting`, as are its 64 agents: a type for up to 31 days is no plainer, since an open month holds its days as a figure of its own.
-pub fn check_hour(days: u32, hour: u32) -> Result<HourStamp, LineFault>
-    requires { days ≤ 31 }
-    ensures fault { result_err result ≡ hour_fault (24 * days) hour }
-    ensures stamp { IfOk result (λ s. (s.hour ≡ hour) × (s.days ≡ days)) }
+pub fn check_hour(days: u32, calendar: Calendar, hour: u32) -> Result<HourStamp, LineFault>
+    requires { days ≤ most_days }
+    ensures fault { result_err result ≡ hour_fault (hours_of days) hour }
+    ensures hour { IfOk result (λ s. s.hour ≡ hour) }
+    ensures month { IfOk result (λ s. (s.days ≡ days) × (s.calendar ≡ calendar)) }
 {
-    HourStamp::new(hour, days).ok_or(LineFault::HourOutside(hour))
+    HourStamp::new(hour, days, calendar).ok_or(LineFault::HourOutside(hour))
 }
 
 /// Refuses another number of lines than agents, or a price outside its limit.
-fn check_head(agents: &[Agent], price: u32, lines: &[Line]) -> Result<(), LineFault>
-    ensures { result_err result ≡ head_fault (length agents.now) price lines.now }
+fn check_head(agents: &[Agent], posting: &Posting<'_>) -> Result<(), LineFault>
+    ensures { result_err result ≡ head_fault (length agents.now) (posting_of posting.now) }
 {
-    if lines.len() != agents.len() || price > MOST_PRICE {
+    if posting.lines.len() != agents.len() || posting.price > MOST_PRICE {
         return Err(LineFault::OutsideLimit(0));
     }
     Ok(())
@@ -48,11 +60,14 @@ fn check_head(agents: &[Agent], price: u32, lines: &[Line]) -> Result<(), LineFa
 struct PostedLines<'a> {
     lines: &'a [Line],
     agents: &'a [Agent],
-    ghost few: { length lines.now ≤ 64 },
+    ghost few: { length lines.now ≤ most_agents },
     ghost each_has_one: { length lines.now ≡ length agents.now },
 }
 
 impl PostedLines<'_> {
+    ghost use Rattle.settlement.specs.PostingFaults.{limit_fault, rule_fault, together_fault};
+    ghost use Rattle.settlement.specs.PostingFaults.{injected_together, withdrawn_together};
+
     /// Refuses a line with a figure outside its limit.
     fn check_limits(&self) -> Result<(), LineFault>
         ensures { result_err result ≡ limit_fault self.now.lines.now }
@@ -66,11 +81,11 @@ impl PostedLines<'_> {
 
     /// Refuses a line that breaks the rule of its class.
     fn check_rules(&self) -> Result<(), LineFault>
-        ensures { result_err result ≡ rule_fault (length self.now.agents.now) self.now.agents.now self.now.lines.now }
+        ensures { result_err result ≡ rule_fault self.now.agents.now self.now.lines.now }
     {
         let count = self.agents.len() as u32;
         let mut each = self.lines.iter().zip(self.agents);
-        match each.position(|(line, agent)| !line.keeps_its_class(count, agent.known_role())) {
+        match each.position(|(line, agent)| !line.keeps_its_class(count, Role::named(agent.role))) {
             Some(i) => Err(LineFault::BreaksRule(i as u32 + 1)),
             None => Ok(()),
         }
@@ -102,32 +117,34 @@ impl PostedLines<'_> {
     }
 }
 
-/// A posting whose own figures are in order, or the first fault of them, in a month of `days` days.
-pub fn check_posting<'a>(
-    days: u32,
-    hour: u32,
-    price: u32,
-    lines: &'a [Line],
-    agents: &'a [Agent],
-) -> Result<MeasuredPosting<'a>, LineFault>
-    requires few_agents { length agents.now ≤ 64 }
-    requires few_days { days ≤ 31 }
-    ensures fault { result_err result ≡ line_fault (length agents.now) (24 * days) agents.now hour price lines.now }
-    ensures stamp { IfOk result (λ p. (p.stamp.hour ≡ hour) × (p.stamp.days ≡ days)) }
-    ensures figures { IfOk result (λ p. (p.price ≡ price) × (p.lines.now ≡ lines.now) × (p.agents.now ≡ agents.now)) }
-    ensures long { OnOk result (length lines.now ≡ length agents.now) }
-    ensures measured { OnOk result (Measured price lines.now) }
-{
-    let stamp = check_hour(days, hour)?;
-    check_head(agents, price, lines)?;
-    let posted = PostedLines { lines, agents };
-    posted.check_limits()?;
-    posted.check_rules()?;
-    posted.check_together()?;
-    Ok(MeasuredPosting {
-        stamp,
-        price,
-        lines,
-        agents,
-    })
+impl<'a, F: ContractForm> Setting<'a, F> {
+    ghost use Rattle.settlement.specs.Setting.{setting_of};
+    ghost use Rattle.settlement.specs.PostingFaults.{line_fault};
+
+    /// A posting whose own figures are in order, or the first fault of them.
+    pub fn check_posting(&self, posting: &Posting<'a>) -> Result<CheckedPosting<'a>, LineFault>
+        requires { length self.now.agents.now ≤ most_agents }
+        ensures fault { let setting = setting_of (F.meaning self.now.form.now) self.now in
+            result_err result ≡ line_fault setting (posting_of posting.now) }
+        ensures posting { IfOk result (λ p. posting_of p.posting ≡ posting_of posting.now) }
+        ensures agents { IfOk result (λ p. p.agents.now ≡ self.now.agents.now) }
+        ensures month { IfOk result (λ p. (p.stamp.days ≡ self.now.days) × (p.stamp.calendar ≡ self.now.calendar)) }
+        ensures long { OnOk result (length posting.now.lines.now ≡ length self.now.agents.now) }
+        ensures fits { OnOk result (PostingFits (posting_of posting.now)) }
+    {
+        let stamp = check_hour(self.days, self.calendar, posting.hour)?;
+        check_head(self.agents, posting)?;
+        let posted = PostedLines {
+            lines: posting.lines,
+            agents: self.agents,
+        };
+        posted.check_limits()?;
+        posted.check_rules()?;
+        posted.check_together()?;
+        Ok(CheckedPosting {
+            stamp,
+            posting: *posting,
+            agents: self.agents,
+        })
+    }
 }

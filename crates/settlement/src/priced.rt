@@ -1,10 +1,13 @@
 //! A line at the price of its hour.
 ghost use Rattle.std.specs.Prelude.{◌≡◌, ◌<◌, ◌≤◌, true, pos};
+ghost use Rattle.forms.specs.Limits.{most_agents};
+ghost use Rattle.valuation.specs.Limits.{most_price, most_cost_amount};
+ghost use Rattle.settlement.specs.Limits.{most_excess};
 ghost use Rattle.settlement.specs.Holdings.{entry_of};
 ghost use Rattle.settlement.specs.Hour.{excess_on, obligated_on, caused_on, figures_with};
 ghost use Rattle.settlement.specs.Lines.{line_within};
 
-use crate::holdings::Entry;
+use crate::holdings::Holding;
 use crate::lines::{Class, Line};
 use tally::{Energy, Money, Pair};
 use valuation::{amount, excess};
@@ -14,16 +17,15 @@ use valuation::{amount, excess};
 pub(crate) struct PricedLine<'a> {
     pub(crate) price: u32,
     pub(crate) line: &'a Line,
-    ghost price_within: { price ≤ 2000000 },
+    ghost price_within: { price ≤ most_price },
     ghost figures_within: { line_within line.now ≡ true },
 }
 
 impl PricedLine<'_> {
     /// The excess of a line that had to run; 0 in a normal one.
     pub(crate) fn excess(&self) -> u64
-        // Kept as bounds of the results, here and below: a type of such points is no plainer, since each is used once, by the sum that adds them up.
         ensures value { result ≡ excess_on self.now.price self.now.line.now }
-        ensures bound { result ≤ 80000000000 }
+        ensures bound { result ≤ most_cost_amount }
     {
         let line = self.line;
         match line.known_class() {
@@ -41,7 +43,7 @@ impl PricedLine<'_> {
     /// The excess of a line if it is obligated.
     pub(crate) fn obligated(&self) -> u64
         ensures value { result ≡ obligated_on self.now.price self.now.line.now }
-        ensures bound { result ≤ 80000000000 }
+        ensures bound { result ≤ most_cost_amount }
     {
         match self.line.known_class() {
             Some(Class::Obligated) => self.excess(),
@@ -51,9 +53,9 @@ impl PricedLine<'_> {
 
     /// The excess of a line if it is forced, and the agent at place `index` is its cause.
     pub(crate) fn caused_by(&self, index: usize) -> u64
-        requires index_small { index < 64 }
+        requires index_small { index < most_agents }
         ensures value { result ≡ caused_on self.now.price index self.now.line.now }
-        ensures bound { result ≤ 80000000000 }
+        ensures bound { result ≤ most_cost_amount }
     {
         match self.line.known_class() {
             Some(Class::Forced) if self.line.cause as usize == index + 1 => self.excess(),
@@ -62,9 +64,9 @@ impl PricedLine<'_> {
     }
 
     /// The entry of the line's agent, contracts aside: from the line, and the excess that the agent caused and carries.
-    pub(crate) fn entry(&self, caused: u64, carried: u64) -> Entry
-        requires caused_within { caused ≤ 5120000000000 }
-        requires carried_within { carried ≤ 5120000000000 }
+    pub(crate) fn entry(&self, caused: u64, carried: u64) -> Holding
+        requires caused_within { caused ≤ most_excess }
+        requires carried_within { carried ≤ most_excess }
         ensures { result ≡ entry_of (figures_with self.now.price self.now.line.now (pos 0) caused carried) }
     {
         let line = self.line;

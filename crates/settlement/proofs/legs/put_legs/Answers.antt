@@ -1,19 +1,50 @@
-use Rattle.std.proofs.Common.{◌+◌, cond, eqb, get_or, ℤ, pos, ap, ◌∙◌, arith, w64, SFits, to_z, of_z}
-use Rattle.std.proofs.lemmas.Int.{ints, to_z-of_z}
+use Rattle.std.proofs.Common.{◌≡◌, ℕ, ◌+◌, ◌≤◌, cond, eqb, List, get_or, take, ℤ, pos, nat_abs, sym, ap, ◌∙◌, subst, arith, w64, to_z, of_z}
+use Rattle.std.proofs.lemmas.Int.{to_z-of_z}
+use Rattle.std.proofs.lemmas.List.{take_all}
+use Rattle.std.proofs.lemmas.Slice.Zip.{get_or-zip}
+use Rattle.tally.specs.Sums.{int_sum_by}
+use Rattle.forms.specs.Limits.{most_leg}
+use Rattle.forms.specs.Parties.{party_numbers, points_of, legs_by_party}
 use Rattle.settlement.specs.Holdings.{Holding, no_holding, with_points}
-use Rattle.settlement.proofs.Points.{points_more}
+use Rattle.settlement.specs.Legs.{is_number, given_to}
+use Rattle.settlement.proofs.Points.{points_none, points_more, int_sum_by_more}
+use Rattle.settlement.proofs.Sums.{fits_abs}
 use Rattle.settlement.proofs.legs.put_legs.Goals as goal
+
+pub loop-number-init : goal.loop-number-init
+loop-number-init c i within = sym (points_none (get_or c.args.fresh.now i no_holding))
+
+pub put_leg-requires : goal.put_leg-requires
+put_leg-requires c =
+    let k = c.loop-number.number-index in
+    let numbers = party_numbers c.args.contract in
+    let number : (get_or c.legs_by_party.result k (0, pos 0)).0 ≡ get_or numbers k 0 =
+    ap (λ (legs : List (ℕ × ℤ)). (get_or legs k (0, pos 0)).0) c.legs_by_party.ensures
+    ∙ ap (λ (leg : ℕ × ℤ). leg.0) (get_or-zip numbers (points_of c.args.legs) k (0, pos 0) c.loop-number-test.true c.loop-number-test.true) in
+    let known = c.requires.known k 0 c.loop-number-test.true in
+    record { some = omega (arith, known.0, number); known = omega (arith, known.1, number, c.loop-number.auto.fresh) }
+
+pub loop-number-preserved : goal.loop-number-preserved
+loop-number-preserved c i within =
+    let k = c.loop-number.number-index in
+    let legs : List (ℕ × ℤ) = legs_by_party c.args.contract c.args.legs in
+    let old : Holding = get_or c.args.fresh.now i no_holding in
+    let one : ℕ × ℤ → ℤ = λ leg. cond (eqb leg.0 (i + 1)) leg.1 (pos 0) in
+    let none : ℕ × ℤ = (0, pos 0) in
+    let leg : ℕ × ℤ = get_or legs k none in
+    let points : leg.1 ≡ get_or (points_of c.args.legs) k (pos 0) =
+    ap (λ (x : ℕ × ℤ). x.1) (get_or-zip (party_numbers c.args.contract) (points_of c.args.legs) k none c.loop-number-test.true c.loop-number-test.true) in
+    let small : nat_abs leg.1 ≤ most_leg = subst (λ (z : ℤ). nat_abs z ≤ most_leg) (sym points) (c.requires.balanced.within k (pos 0) c.loop-number-test.true) in
+    let before : Holding = get_or c.loop-number.fresh i no_holding in
+    c.put_leg.ensures i (omega (arith, c.loop-number.auto.fresh))
+    ∙ ap (λ (ls : List (ℕ × ℤ)). with_points (cond (eqb (get_or ls k none).0 (i + 1)) (to_z w64 (of_z w64 (get_or ls k none).1)) (pos 0)) before) c.legs_by_party.ensures
+    ∙ ap (λ z. with_points (cond (eqb leg.0 (i + 1)) z (pos 0)) before) (to_z-of_z w64 leg.1 (fits_abs leg.1 (omega arith)))
+    ∙ ap (with_points (one leg)) (c.loop-number.invariant i within)
+    ∙ points_more (int_sum_by one (take k legs)) (one leg) old
+    ∙ ap (λ z. with_points z old) (sym (int_sum_by_more one legs k none c.loop-number-test.true))
 
 pub returns : goal.returns
 returns c i within =
-    let seller = c.args.legs.seller in
-    let buyer = c.args.legs.buyer in
-    let seller_fits : SFits w64 seller = omega (arith, ints, c.requires.balanced.seller_from, c.requires.balanced.seller_to) in
-    let buyer_fits : SFits w64 buyer = omega (arith, ints, c.requires.balanced.buyer_from, c.requires.balanced.buyer_to) in
-    let sold : ℤ → ℤ = λ points. cond (eqb c.args.contract.seller (i + 1)) points (pos 0) in
-    let bought : ℤ → ℤ = λ points. cond (eqb c.args.contract.buyer (i + 1)) points (pos 0) in
-    let old : Holding = get_or c.args.fresh.now i no_holding in
-    c.put_leg-2.ensures i (omega (arith, c.put_leg.auto.fresh))
-    ∙ ap (with_points (bought (to_z w64 (of_z w64 buyer)))) (c.put_leg.ensures i within)
-    ∙ (λ t. with_points (bought (to_z-of_z w64 buyer buyer_fits t)) (with_points (sold (to_z-of_z w64 seller seller_fits t)) old))
-    ∙ points_more (sold seller) (bought buyer) old
+    let legs : List (ℕ × ℤ) = legs_by_party c.args.contract c.args.legs in
+    c.loop-number.invariant i within
+    ∙ ap (λ legs. with_points (given_to (is_number i) legs) (get_or c.args.fresh.now i no_holding)) (take_all c.loop-number.number-index legs c.loop-number-test.false)

@@ -2,8 +2,8 @@ use Rattle.std.proofs.Common.{◌≡◌, ◌<◌, ◌≢◌, length, get_or, pos
 use Rattle.std.proofs.lemmas.List.FromFn.{fill_by_all}
 use Rattle.std.proofs.lemmas.List.{get_or_default, get_or-set_same, get_or-set_other}
 use Rattle.settlement.specs.Holdings.{no_holding, holding_joined, withdrawn_on, power_points}
-use Rattle.settlement.specs.Power.{power_credit}
-use Rattle.settlement.proofs.Powers.{charged, power_part_le, power_part_read}
+use Rattle.settlement.specs.Power.{power_credit, charged_at}
+use Rattle.settlement.proofs.Powers.{power_part_le, power_part_read}
 use Rattle.settlement.proofs.power.charge_parts.Goals as goal
 
 pub put_power-requires : goal.put_power-requires
@@ -31,7 +31,7 @@ loop-i-preserved c =
     let lt : i < length c.loop-i.accounts = omega (arith, c.loop-i.auto.accounts, c.requires.accounts_long, c.loop-i-test.true) in
     let read : get_or c.loop-i.accounts i c.index-accounts-i.result ≡ old =
     get_or_default c.loop-i.accounts i c.index-accounts-i.result no_holding lt ∙ c.loop-i.invariant.1 i (omega arith) in
-    let made : c.put_power.new.account ≡ charged agents accounts i =
+    let made : c.put_power.new.account ≡ charged_at agents accounts i =
     c.put_power.ensures
     ∙ ap (λ account. holding_joined account (power_points (pos c.power_credit.result -ℤ pos part))) read
     ∙ ap (λ n. holding_joined old (power_points (pos n -ℤ pos part))) c.power_credit.ensures.value
@@ -44,5 +44,5 @@ loop-i-preserved c =
 
 pub returns : goal.returns
 returns c =
-    fill_by_all (charged c.args.agents.now c.args.accounts.now) c.loop-i.accounts (length c.args.accounts.now) no_holding (omega (arith, c.loop-i.auto.accounts))
+    fill_by_all (charged_at c.args.agents.now c.args.accounts.now) c.loop-i.accounts (length c.args.accounts.now) no_holding (omega (arith, c.loop-i.auto.accounts))
     (λ k within. c.loop-i.invariant.0 k (omega arith))

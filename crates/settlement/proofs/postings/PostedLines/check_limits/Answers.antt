@@ -3,11 +3,11 @@ use borrow.Author.Tests.{tests}
 use Rattle.std.specs.Option.{option_map}
 use Rattle.std.proofs.lemmas.Iterator.{YieldsList-from_slice}
 use Rattle.std.proofs.lemmas.Iterator.Search.{position_from_yields_List}
+use Rattle.tally.specs.Failing.{first_failing}
 use Rattle.settlement.specs.declared.faults.LineFault.TheVariants.{OutsideLimit}
 use Rattle.settlement.specs.declared.lines.Line.{Line}
-use Rattle.settlement.specs.Hour.{line_at}
 use Rattle.settlement.specs.Lines.{line_within, no_line}
-use Rattle.settlement.specs.Sums.{first_failing}
+use Rattle.settlement.specs.Posting.{line_at}
 use Rattle.settlement.proofs.Checks.{first_is}
 use Rattle.settlement.proofs.postings.PostedLines.check_limits.Goals as goal
 

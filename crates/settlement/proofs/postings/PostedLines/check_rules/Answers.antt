@@ -5,14 +5,14 @@ use Rattle.std.specs.Option.{option_map}
 use Rattle.std.proofs.lemmas.Iterator.{YieldsList-from_slice, YieldsList-from_zip}
 use Rattle.std.proofs.lemmas.Iterator.Search.{position_from_yields_List}
 use Rattle.std.proofs.lemmas.Slice.Zip.{length-zip, get_or-zip}
+use Rattle.tally.specs.Failing.{first_failing}
 use Rattle.settlement.specs.declared.agents.Agent.{Agent}
 use Rattle.settlement.specs.declared.faults.LineFault.TheVariants.{BreaksRule}
 use Rattle.settlement.specs.declared.lines.Line.{Line}
 use Rattle.forms.specs.Roles.{role_of}
 use Rattle.settlement.specs.Agents.{no_agent}
-use Rattle.settlement.specs.Hour.{line_at, role_at}
 use Rattle.settlement.specs.Lines.{line_kept, no_line}
-use Rattle.settlement.specs.Sums.{first_failing}
+use Rattle.settlement.specs.PostingFaults.{kept_at}
 use Rattle.settlement.proofs.Checks.{first_is}
 use Rattle.settlement.proofs.postings.PostedLines.check_rules.Goals as goal
 
@@ -21,27 +21,26 @@ abbrev broken : ℕ → Line × Agent → Bool
 broken count p = not (line_kept count (role_of p.1.role) p.0)
 
 -- the first of them, by its place
-first_broken : (count : ℕ) (agents : List Agent) (lines : List Line) → length lines ≡ length agents →
-    position (broken count) (zip lines agents) ≡ first_failing (λ i. line_kept count (role_at agents i) (line_at lines i)) 0 (length lines)
-first_broken count agents lines long =
+first_broken : (agents : List Agent) (lines : List Line) → length lines ≡ length agents →
+    position (broken (length agents)) (zip lines agents) ≡ first_failing (kept_at agents lines) 0 (length lines)
+first_broken agents lines long =
     let pairs : length (zip lines agents) ≡ length lines = length-zip lines agents ∙ omega arith in
-    let test : ℕ → Bool = λ i. line_kept count (role_at agents i) (line_at lines i) in
-    first_is (broken count) test (zip lines agents) (no_line, no_agent)
-    (λ i within. ap (broken count) (get_or-zip lines agents i (no_line, no_agent) (omega arith) (omega arith)))
-    ∙ ap (first_failing test 0) pairs
+    first_is (broken (length agents)) (kept_at agents lines) (zip lines agents) (no_line, no_agent)
+    (λ i within. ap (broken (length agents)) (get_or-zip lines agents i (no_line, no_agent) (omega arith) (omega arith)))
+    ∙ ap (first_failing (kept_at agents lines) 0) pairs
 
 pub returns-in-Some : goal.returns-in-Some
 returns-in-Some c =
     let lines = c.args.self.now.lines.now in
     let agents = c.args.self.now.agents.now in
-    let found : c.position.result ≡ position (broken (length c.args.self.now.agents.now)) (zip lines agents) =
-    position_from_yields_List (broken (length c.args.self.now.agents.now)) c.position.new.self _ c.position.result c.position.ensures.ran (YieldsList-from_zip (YieldsList-from_slice lines cc) (YieldsList-from_slice agents cc)) (λ x b q k. search (rules, tests)) in
-    ap (option_map (λ i. BreaksRule (i + 1))) (sym c.in-Some.is ∙ found ∙ first_broken (length c.args.self.now.agents.now) agents lines c.args.self.now.each_has_one)
+    let found : c.position.result ≡ position (broken (length agents)) (zip lines agents) =
+    position_from_yields_List (broken (length agents)) c.position.new.self _ c.position.result c.position.ensures.ran (YieldsList-from_zip (YieldsList-from_slice lines cc) (YieldsList-from_slice agents cc)) (λ x b q k. search (rules, tests)) in
+    ap (option_map (λ i. BreaksRule (i + 1))) (sym c.in-Some.is ∙ found ∙ first_broken agents lines c.args.self.now.each_has_one)
 
 pub returns-in-None : goal.returns-in-None
 returns-in-None c =
     let lines = c.args.self.now.lines.now in
     let agents = c.args.self.now.agents.now in
-    let found : c.position.result ≡ position (broken (length c.args.self.now.agents.now)) (zip lines agents) =
-    position_from_yields_List (broken (length c.args.self.now.agents.now)) c.position.new.self _ c.position.result c.position.ensures.ran (YieldsList-from_zip (YieldsList-from_slice lines cc) (YieldsList-from_slice agents cc)) (λ x b q k. search (rules, tests)) in
-    ap (option_map (λ i. BreaksRule (i + 1))) (sym c.in-None.is ∙ found ∙ first_broken (length c.args.self.now.agents.now) agents lines c.args.self.now.each_has_one)
+    let found : c.position.result ≡ position (broken (length agents)) (zip lines agents) =
+    position_from_yields_List (broken (length agents)) c.position.new.self _ c.position.result c.position.ensures.ran (YieldsList-from_zip (YieldsList-from_slice lines cc) (YieldsList-from_slice agents cc)) (λ x b q k. search (rules, tests)) in
+    ap (option_map (λ i. BreaksRule (i + 1))) (sym c.in-None.is ∙ found ∙ first_broken agents lines c.args.self.now.each_has_one)

@@ -1,0 +1,9 @@
+use Rattle.std.proofs.Common.{◌≡◌, ℕ, List, ℤ, take}
+use Rattle.forms.specs.Parties.{legs_by_party}
+use Rattle.settlement.specs.Holdings.{EachGets}
+use Rattle.settlement.specs.Legs.{is_number, given_to}
+use Rattle.settlement.proofs.legs.put_legs.Given as goal
+
+abbrev pub invariant-loop-number : goal.invariant-loop-number
+invariant-loop-number l =
+    EachGets (λ i. given_to (is_number i) (take l.number-index (legs_by_party l.fn.contract l.fn.legs))) l.initial.fresh l.fresh

@@ -1,0 +1,35 @@
+use Rattle.std.proofs.Common.{◌≡◌, ℕ, sum_by, ◌∙◌, arith, rules}
+use Rattle.std.specs.List.{zip}
+use Rattle.std.proofs.lemmas.Iterator.{YieldsList-from_slice, YieldsList-from_zip, YieldsList-from_map}
+use Rattle.std.proofs.lemmas.Iterator.Consumers.{sum_by_from_yields_List}
+use Rattle.settlement.specs.declared.agents.Agent.{Agent}
+use Rattle.settlement.specs.declared.lines.Line.{Line}
+use Rattle.forms.specs.Roles.{distributes}
+use Rattle.settlement.specs.Agents.{no_agent, counted}
+use Rattle.settlement.specs.Lines.{no_line}
+use Rattle.settlement.specs.Legs.{distributors_withdrawn}
+use Rattle.settlement.proofs.Settles.{distributors_le}
+use Rattle.settlement.proofs.Sums.{sum_by_zip}
+use Rattle.settlement.proofs.postings.CheckedPosting.distributors_withdrawn.Goals as goal
+
+-- what the agent of a line withdrew, if it is a distributor
+abbrev distributed : Line × Agent → ℕ
+distributed p = counted distributes p.1.role p.0.withdrawn
+
+pub returns : goal.returns
+returns c =
+    let checked = c.args.self.now in
+    let sum : c.sum-all.result ≡ sum_by distributed (zip checked.posting.lines.now checked.agents.now) =
+    sum_by_from_yields_List distributed _ c.map.result c.sum-all.result c.sum-all.ensures.ran
+    (YieldsList-from_map _ distributed (YieldsList-from_zip (YieldsList-from_slice checked.posting.lines.now cc) (YieldsList-from_slice checked.agents.now cc)) c.map.ensures.closure (λ x r q k. search rules)) in
+    sum ∙ sum_by_zip distributed checked.posting.lines.now checked.agents.now no_line no_agent checked.agents_long
+
+pub overflow_cast-result : goal.overflow_cast-result
+overflow_cast-result c =
+    let checked = c.args.self.now in
+    let sum : c.sum-all.result ≡ sum_by distributed (zip checked.posting.lines.now checked.agents.now) =
+    sum_by_from_yields_List distributed _ c.map.result c.sum-all.result c.sum-all.ensures.ran
+    (YieldsList-from_map _ distributed (YieldsList-from_zip (YieldsList-from_slice checked.posting.lines.now cc) (YieldsList-from_slice checked.agents.now cc)) c.map.ensures.closure (λ x r q k. search rules)) in
+    let all : c.sum-all.result ≡ distributors_withdrawn checked.agents.now checked.posting.lines.now =
+    sum ∙ sum_by_zip distributed checked.posting.lines.now checked.agents.now no_line no_agent checked.agents_long in
+    record { fits = omega (arith, distributors_le checked.agents.now checked.posting.lines.now, checked.fits.withdrawn_within) }

@@ -1,0 +1,52 @@
+use Rattle.std.proofs.Common.{◌≡◌, ℕ, ◌<◌, ◌≢◌, List, length, get_or, pos, ap, ◌∙◌, arith, below_more}
+use Rattle.std.proofs.lemmas.List.FromFn.{fill_by_all}
+use Rattle.std.proofs.lemmas.List.{get_or-set_same, get_or-set_other}
+use Rattle.valuation.specs.Sharing.{parts_of}
+use Rattle.valuation.proofs.Sharing.{slice_index_or-parts_of}
+use Rattle.settlement.specs.declared.agents.Agent.{Agent}
+use Rattle.settlement.specs.Holdings.{no_holding, entry_of}
+use Rattle.settlement.specs.Hour.{figures_with, own_of, caused_sum, carried_by, obligated_sum, weights_of}
+use Rattle.settlement.specs.Posting.{Posting, posting_of, line_at}
+use Rattle.settlement.proofs.Bounds.{carried_le}
+use Rattle.settlement.proofs.Sharing.{weights_le}
+use Rattle.settlement.proofs.postings.CheckedPosting.fill_entries_by.Goals as goal
+
+-- what the agent at a place carries
+part_read : (agents : List Agent) (p : Posting) (parts : List ℕ) (i : ℕ) →
+    parts ≡ parts_of (obligated_sum p) (weights_of agents p.lines) → get_or parts i 0 ≡ carried_by agents p i
+part_read agents p parts i filled = ap (λ ps. get_or ps i 0) filled ∙ slice_index_or-parts_of (obligated_sum p) (weights_of agents p.lines) i
+
+pub fill_parts-requires-clause-limit : goal.fill_parts-requires-clause-limit
+fill_parts-requires-clause-limit c =
+    let checked = c.args.self.now in
+    omega (arith, weights_le checked.agents.now checked.posting.lines.now, checked.fits.withdrawn_within)
+
+pub entry-requires : goal.entry-requires
+entry-requires c =
+    let checked = c.args.self.now in
+    let p : Posting = posting_of checked.posting in
+    record {
+      caused_within = c.caused_excess.ensures.bound;
+      carried_within = omega (arith, part_read checked.agents.now p c.fill_parts.new.parts c.loop-i.i c.fill_parts.ensures.value, carried_le p checked.fits checked.agents.now c.loop-i.i c.loop-i-test.true);
+    }
+
+pub loop-i-preserved : goal.loop-i-preserved
+loop-i-preserved c =
+    let i = c.loop-i.i in
+    let agents : List Agent = c.args.self.now.agents.now in
+    let p : Posting = posting_of c.args.self.now.posting in
+    let line = line_at p.lines i in
+    let made : c.entry.result ≡ entry_of (own_of agents p i) =
+    c.entry.ensures
+    ∙ (λ t. entry_of (figures_with (c.priced.ensures.price t) (c.priced.ensures.line t) (pos 0) c.caused_excess.result (get_or c.fill_parts.new.parts i 0)))
+    ∙ ap (λ n. entry_of (figures_with p.price line (pos 0) n (get_or c.fill_parts.new.parts i 0))) c.caused_excess.ensures.value
+    ∙ ap (λ n. entry_of (figures_with p.price line (pos 0) (caused_sum p i) n)) (part_read agents p c.fill_parts.new.parts c.loop-i.i c.fill_parts.ensures.value) in
+    below_more _ _
+    (λ k h. let ne : k ≢ i = omega arith in rw get_or-set_other (c.loop-i.invariant k h))
+    (let lt : i < length c.loop-i.fresh = omega arith in get_or-set_same c.loop-i.fresh i c.entry.result no_holding lt ∙ made)
+
+pub returns : goal.returns
+returns c =
+    let checked = c.args.self.now in
+    fill_by_all (λ i. entry_of (own_of checked.agents.now (posting_of checked.posting) i)) c.loop-i.fresh (length checked.posting.lines.now) no_holding (omega (arith, c.loop-i.auto.fresh))
+    (λ k within. c.loop-i.invariant k (omega arith))

@@ -1,0 +1,28 @@
+use Rattle.std.proofs.Common.{◌≡◌, true, sum_by, ◌∙◌, arith, rules}
+use Rattle.std.proofs.lemmas.Iterator.{YieldsList-from_slice}
+use Rattle.std.proofs.lemmas.Iterator.Adapters.{serves_from_places}
+use Rattle.settlement.specs.Hour.{obligated_on}
+use Rattle.settlement.specs.Lines.{line_within, no_line}
+use Rattle.settlement.specs.Posting.{Posting, posting_of}
+use Rattle.settlement.proofs.Bounds.{item_within, obligated_le}
+use Rattle.settlement.proofs.Sums.{sum_by_list}
+use Rattle.settlement.proofs.postings.CheckedPosting.obligated_excess.Goals as goal
+
+pub sum-requires-clause-can : goal.sum-requires-clause-can
+sum-requires-clause-can c =
+    let p : Posting = posting_of c.args.self.now.posting in (
+      tt,
+      serves_from_places (YieldsList-from_slice p.lines cc) (λ x q k. search rules)
+          (λ x k below is. let within : line_within x.now ≡ true = item_within p c.args.self.now.fits k x.now below is in search rules),
+    )
+
+pub returns-clause-value : goal.returns-clause-value
+returns-clause-value c =
+    let p : Posting = posting_of c.args.self.now.posting in
+    let sum : c.sum.result ≡ sum_by (obligated_on p.price) p.lines = search rules in
+    sum ∙ sum_by_list (obligated_on p.price) p.lines no_line
+
+pub returns-clause-bound : goal.returns-clause-bound
+returns-clause-bound c =
+    let p : Posting = posting_of c.args.self.now.posting in
+    omega (arith, returns-clause-value c, obligated_le p c.args.self.now.fits)

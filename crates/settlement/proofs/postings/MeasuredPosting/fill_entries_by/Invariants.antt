@@ -1,7 +1,0 @@
-use Rattle.std.proofs.Common.{◌≡◌, ℕ, ◌<◌, get_or}
-use Rattle.settlement.specs.Holdings.{no_holding, entry_of}
-use Rattle.settlement.specs.Hour.{own_of}
-use Rattle.settlement.proofs.postings.MeasuredPosting.fill_entries_by.Given as goal
-
-abbrev pub invariant-loop-i : goal.invariant-loop-i
-invariant-loop-i l = (k : ℕ) → k < l.i → get_or l.fresh k no_holding ≡ entry_of (own_of l.self.agents.now l.self.price l.self.lines.now k)
