@@ -9,9 +9,9 @@ use Rattle.calendar.specs.Limits.{most_days, most_hours}
 use Rattle.forms.specs.declared.Contract.{Contract}
 use Rattle.forms.specs.declared.Facts.{Facts}
 use Rattle.forms.specs.declared.Parties.{Parties}
-use Rattle.forms.specs.Known.{valid_of, hours_fit_longest}
+use Rattle.forms.specs.Known.{valid_of, measured_of, hours_fit_longest}
 use Rattle.forms.specs.Meaning.{MayAsk}
-use Rattle.forms.specs.Measured.{withdrawn_fits, Measured}
+use Rattle.forms.specs.Measured.{prices_fit, withdrawn_fits, Measured}
 use Rattle.forms.specs.Parties.{party_numbers}
 use Rattle.forms.specs.Roles.{distributes, has_role}
 use Rattle.forms.specs.Terms.{Valid, parties_fit, hours_fit, figures_fit}
@@ -158,7 +158,8 @@ module _ (setting : Setting) (p : Posting) (c : Contract) (long : length p.lines
       let from' = le-leb least_factor (line_at p.lines (c.buyer - 1)).factor bought.least_factor in
       let to' = le-leb (line_at p.lines (c.buyer - 1)).factor most_factor bought.most_factor in
       let injected = le-leb (line_at p.lines (c.seller - 1)).injected most_energy sold.injected in
-      simp (price, from, to, from', to', injected, withdrawn)
+      let prices : prices_fit (facts_of setting p c) ≡ true = simp (price, from, to, from', to') in
+      measured_of (parties_of setting.agents c) (facts_of setting p c) prices injected withdrawn
 
 pub settles : (setting : Setting) (p : Posting) (c : Contract) → setting.days ≤ most_days → length p.lines ≡ length setting.agents → PostingFits p →
     contract_fits setting c ≡ true → MayAsk setting.form c (parties_of setting.agents c) (facts_of setting p c)
