@@ -19,7 +19,8 @@ line_on Power x = x.power
 
 -- all lines, each by its name
 abbrev pub lines_by : (MoneyLine → ℤ) → Lines
-lines_by f = record { market = f Market; contract = f Contract; overcost = f Overcost; power = f Power }
+lines_by f =
+    record { market = f Market; contract = f Contract; overcost = f Overcost; power = f Power }
 
 -- nothing on any line
 abbrev pub no_lines : Lines

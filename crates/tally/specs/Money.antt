@@ -19,7 +19,8 @@ money_of x = record {
 
 -- the lines of money
 abbrev pub lines_of : Money → Lines
-lines_of m = record { market = m.market; contract = m.contract; overcost = m.overcost; power = m.power }
+lines_of m =
+    record { market = m.market; contract = m.contract; overcost = m.overcost; power = m.power }
 
 -- no money
 abbrev pub no_money : Money

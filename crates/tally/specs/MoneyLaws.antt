@@ -27,8 +27,10 @@ money_same x y same i = record {
 }
 
 -- the same, line by line
-pub money_each : (x y : Money) → x.market ≡ y.market → x.contract ≡ y.contract → x.overcost ≡ y.overcost → x.power ≡ y.power → x ≡ y
-money_each x y m c o p = money_same x y (λ i. record { market = m i; contract = c i; overcost = o i; power = p i })
+pub money_each : (x y : Money) →
+    x.market ≡ y.market → x.contract ≡ y.contract → x.overcost ≡ y.overcost → x.power ≡ y.power → x ≡ y
+money_each x y m c o p =
+    money_same x y (λ i. record { market = m i; contract = c i; overcost = o i; power = p i })
 
 -- a number that fits is itself, wrapped
 fits : (z : ℤ) → mag z < 2 ^ 63 → int_wrap w64 z ≡ z
@@ -36,18 +38,22 @@ fits z h = int_wrap_fits w64 z (record { sfits = h })
 
 -- money is what its lines are
 pub money_of_lines : (m : Money) → money_of (lines_of m) ≡ m
-money_of_lines m = money_each _ m (fits _ m.market_fits) (fits _ m.contract_fits) (fits _ m.overcost_fits) (fits _ m.power_fits)
+money_of_lines m =
+    money_each _ m (fits _ m.market_fits) (fits _ m.contract_fits) (fits _ m.overcost_fits) (fits _ m.power_fits)
 
 -- to wrap two numbers before they are added changes nothing
 wrapped_add : (a b : ℤ) → int_wrap w64 (int_wrap w64 a +ℤ int_wrap w64 b) ≡ int_wrap w64 (a +ℤ b)
 wrapped_add a b = int_wrap-add_left w64 a (int_wrap w64 b) ∙ int_wrap-add_right w64 a b
 
-pub money_of_joined : (x y : Lines) → money_joined (money_of x) (money_of y) ≡ money_of (lines_joined x y)
-money_of_joined x y = money_same _ _ (λ i. lines_by (λ line. wrapped_add (line_on line x) (line_on line y) i))
+pub money_of_joined : (x y : Lines) →
+    money_joined (money_of x) (money_of y) ≡ money_of (lines_joined x y)
+money_of_joined x y =
+    money_same _ _ (λ i. lines_by (λ line. wrapped_add (line_on line x) (line_on line y) i))
 
 -- the opposite of a number, wrapped before or after
 wrapped_neg : (a : ℤ) → int_wrap w64 (neg_ℤ (int_wrap w64 a)) ≡ int_wrap w64 (neg_ℤ a)
-wrapped_neg a = ap (int_wrap w64) (sym (+ℤ_idl _)) ∙ int_wrap-sub_right w64 (pos 0) a ∙ ap (int_wrap w64) (+ℤ_idl _)
+wrapped_neg a =
+    ap (int_wrap w64) (sym (+ℤ_idl _)) ∙ int_wrap-sub_right w64 (pos 0) a ∙ ap (int_wrap w64) (+ℤ_idl _)
 
 pub money_of_undone : (x : Lines) → money_undone (money_of x) ≡ money_of (lines_undone x)
 money_of_undone x = money_same _ _ (λ i. lines_by (λ line. wrapped_neg (line_on line x) i))
@@ -57,7 +63,8 @@ money_identity x =
     ap (money_joined no_money) (sym (money_of_lines x)) ∙ money_of_joined no_lines (lines_of x)
     ∙ ap money_of (lines_lawful.identity (lines_of x)) ∙ money_of_lines x
 
-money_associative : (x y z : Money) → money_joined (money_joined x y) z ≡ money_joined x (money_joined y z)
+money_associative : (x y z : Money) →
+    money_joined (money_joined x y) z ≡ money_joined x (money_joined y z)
 money_associative x y z =
     let a = lines_of x in
     let b = lines_of y in

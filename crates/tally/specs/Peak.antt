@@ -1,5 +1,5 @@
 -- The peak of an hour and of several. Assumes nothing.
-use Rattle.std.specs.Prelude.{ℕ, Bool, cond, ◌&&◌, ◌||◌, ◌==◌, nat_lt}
+use Rattle.std.specs.Prelude.{ℕ, Bool, if◌then◌else◌, ◌&&◌, ◌||◌, ◌==◌, nat_lt}
 use Rattle.std.proofs.lemmas.Bool.{cond-true, eq-eqb}
 use Rattle.tally.specs.declared.peak.Peak.{Peak}
 
@@ -7,7 +7,7 @@ use Rattle.tally.specs.declared.peak.Peak.{Peak}
 abbrev pub peak_of : ℕ → ℕ → Peak
 peak_of kwh hour = record {
   kwh = kwh;
-  hour = cond (kwh == 0) 0 hour;
+  hour = if kwh == 0 then 0 else hour;
   idle = λ none. cond-true (kwh == 0) 0 hour (eq-eqb kwh 0 none);
 }
 
@@ -21,4 +21,4 @@ beats x y = nat_lt y.kwh x.kwh || (y.kwh == x.kwh && nat_lt x.hour y.hour)
 
 -- the larger of two peaks, and of equal ones the earlier
 abbrev pub peak_joined : Peak → Peak → Peak
-peak_joined x y = cond (beats y x) y x
+peak_joined x y = if beats y x then y else x

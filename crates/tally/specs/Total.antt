@@ -30,4 +30,5 @@ day_totals nothing joined days month =
 -- the sum of a month is that of its days, however many are counted
 abbrev pub JoinsDays : {T : Type 0} → T → (T → T → T) → (month : List T) (sum : T) → Type 0
 JoinsDays nothing joined month sum =
-    (days : ℕ) → length month ≤ 24 * days → sum ≡ total nothing joined (day_totals nothing joined days month)
+    (days : ℕ) → length month ≤ 24 * days →
+    sum ≡ total nothing joined (day_totals nothing joined days month)

@@ -1,9 +1,10 @@
 -- Amounts, cost amounts and excesses are within their limits. Assumes nothing.
-use Rattle.std.proofs.Common.{ℕ, ◌-◌, ◌*◌, ◌≤◌, Bool, true, false, cond, ltb, arith}
+use Rattle.std.proofs.Common.{ℕ, ◌-◌, ◌*◌, ◌≤◌, Bool, true, false, cond, ltb, lit<, arith}
 use Rattle.std.proofs.lemmas.Nat.{mul-le}
-use Rattle.valuation.specs.Amounts.{amount_of, cost_amount_of}
+use Rattle.valuation.specs.Amounts.{amount_units, cost_units, amount_of, cost_amount_of}
 use Rattle.valuation.specs.Excess.{excess_of}
 use Rattle.valuation.specs.Limits.{most_energy, most_price, most_factor, most_amount, most_cost_amount}
+use Rattle.valuation.proofs.Rounding.{rounded_le}
 
 -- the amount before rounding
 pub product_le : (energy factor price : ℕ) → energy ≤ most_energy → factor ≤ most_factor → price ≤ most_price → energy * factor * price ≤ most_energy * most_factor * most_price
@@ -16,11 +17,13 @@ cost_product_le energy cost he hc = mul-le energy cost most_energy most_price he
 
 -- an amount
 pub amount_of_le : (energy factor price : ℕ) → energy ≤ most_energy → factor ≤ most_factor → price ≤ most_price → amount_of energy factor price ≤ most_amount
-amount_of_le energy factor price he hf hp = omega (arith, product_le energy factor price he hf hp)
+amount_of_le energy factor price he hf hp =
+    rounded_le (energy * factor * price) (most_energy * most_factor * most_price) amount_units (lit< tt) (product_le energy factor price he hf hp)
 
 -- a cost amount
 pub cost_amount_of_le : (energy cost : ℕ) → energy ≤ most_energy → cost ≤ most_price → cost_amount_of energy cost ≤ most_cost_amount
-cost_amount_of_le energy cost he hc = omega (arith, mul-le energy cost most_energy most_price he hc)
+cost_amount_of_le energy cost he hc =
+    rounded_le (energy * cost) (most_energy * most_price) cost_units (lit< tt) (cost_product_le energy cost he hc)
 
 -- an excess, which is at most the cost amount
 pub excess_of_le : (price gross injected factor cost : ℕ) → gross ≤ most_energy → cost ≤ most_price → excess_of price gross injected factor cost ≤ most_cost_amount

@@ -2,10 +2,11 @@
 -- up, and that no part is a whole point off, follows. Assumes nothing.
 use Rattle.std.proofs.Common.{◌≡◌, ℕ, zero, suc, ◌+◌, ◌*◌, ◌/◌, ◌%◌, ◌<◌, ◌≤◌, ◌⊎◌, List, map, length, get_or, take, sum, sym, ap, ◌∙◌, subst, inl, inr, add-zero, mod-lt, mul_comm, add-mul, eq-zero-or-pos, mul-le-mul_left, mul-zero, div-add-mod', zero-mul, mul-add, mul_right_comm, mul-div_cancel, add-one, arith}
 use native.Mathlib.Nat.{zero-div, div-zero, zero-mod, mul-add-div_right, div-le_of_le-mul}
-use Rattle.std.specs.List.{range_with_len}
+use Rattle.std.specs.List.{All, range_with_len}
 use Rattle.std.proofs.lemmas.Nat.{le-div}
 use Rattle.std.proofs.lemmas.List.FromFn.{length-map-range_with_len, get_or-map-range_with_len, sum_by-map-range_with_len_more}
 use Rattle.std.proofs.lemmas.List.{get_or_past, take_all}
+use Rattle.std.proofs.lemmas.List.Elements.{All-from_get_or}
 use Rattle.std.proofs.lemmas.List.Sums.{sum_by_more, sum_by-take-le}
 use Rattle.std.proofs.lemmas.Bool.{cases_lt}
 use Rattle.valuation.specs.Sharing.{part_at, part_of, parts_of, Fair}
@@ -103,6 +104,20 @@ slice_index_or-parts_of points weights i = either (cases_lt i (length weights))
     either (inr past) =
         get_or_past (parts_of points weights) i 0 (omega (arith, length-parts_of points weights))
         ∙ sym (part_of_no_weight points weights i (get_or_past weights i 0 past))
+
+-- each part is at most what is shared
+pub parts_of_within : (points : ℕ) (weights : List ℕ) → All (λ part. part ≤ points) (parts_of points weights)
+parts_of_within points weights =
+    All-from_get_or (λ part. part ≤ points) (parts_of points weights) 0 (λ i within.
+    omega (arith, slice_index_or-parts_of points weights i, part_of_le points weights i (omega (arith, within, length-parts_of points weights))))
+
+-- where no weight is above 0, each is 0
+pub parts_of_none : (points : ℕ) (weights : List ℕ) → sum weights ≡ 0 → All (λ part. part ≡ 0) (parts_of points weights)
+parts_of_none points weights none =
+    All-from_get_or (λ part. part ≡ 0) (parts_of points weights) 0 (λ i within.
+    slice_index_or-parts_of points weights i
+    ∙ ap (λ total. part_at points total (sum (take i weights)) (get_or weights i 0)) none
+    ∙ part_at_no_total points (sum (take i weights)) (get_or weights i 0))
 
 module _ (points : ℕ) (weights : List ℕ) (some : 0 < sum weights) where
   -- the first k parts together

@@ -1,5 +1,5 @@
-pub mod Limits
 pub mod Rounding
 pub mod Amounts
+pub mod Limits
 pub mod Sharing
 pub mod Excess

@@ -5,11 +5,13 @@ use Rattle.std.specs.List.{range_with_len}
 -- The part of a weight, when points are shared over weights of this total, those before it adding up to `before`: the quotient
 -- times the weight, and so much of the remainder as the running sum moves on. Where the total is 0, so is the part.
 abbrev pub part_at : (points total before weight : ℕ) → ℕ
-part_at points total before weight = points / total * weight + points % total * (before + weight) / total - points % total * before / total
+part_at points total before weight =
+    points / total * weight + points % total * (before + weight) / total - points % total * before / total
 
 -- The part of the weight at place i, from 0.
 abbrev pub part_of : ℕ → List ℕ → ℕ → ℕ
-part_of points weights i = part_at points (sum weights) (sum (take i weights)) (slice_index weights i)
+part_of points weights i =
+    part_at points (sum weights) (sum (take i weights)) (slice_index weights i)
 
 -- The parts of all weights, in their order.
 abbrev pub parts_of : ℕ → List ℕ → List ℕ

@@ -1,6 +1,6 @@
-// What energy is worth, and how points are shared.
-//
-// Money is counted in points of 1/10,000 US dollar.
+//! What energy is worth, and how points are shared.
+//!
+//! Money is counted in points of 1/10,000 US dollar.
 #![tactic(auto)]
 
 mod limits;
@@ -15,4 +15,4 @@ pub use limits::{
 };
 pub use overcost::excess;
 pub use pricing::{amount, cost_amount};
-pub use split::{part, share};
+pub use split::share;

@@ -1,4 +1,4 @@
-// The excess of generation that runs at a cost above the price.
+//! The excess of generation that runs at a cost above the price.
 ghost use Rattle.std.specs.Prelude.{◌≡◌, ◌≤◌};
 ghost use Rattle.valuation.specs.Excess.{excess_of};
 ghost use Rattle.valuation.specs.Limits.{most_energy, most_price, most_factor, most_cost_amount};

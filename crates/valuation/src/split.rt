@@ -1,5 +1,6 @@
-// Sharing points over weights, to the last point.
+//! Sharing points over weights, to the last point.
 ghost use Rattle.std.specs.Prelude.{◌≡◌, ◌+◌, ◌*◌, ◌/◌, ◌%◌, ◌^◌, ◌<◌, ◌≤◌, length, sum};
+ghost use Rattle.std.specs.List.{All};
 ghost use Rattle.valuation.specs.Sharing.{part_at, parts_of, AddsUp, Fair};
 
 /// A sharing on its way: the points, the total of the weights, and the sum of those before the next.
@@ -49,31 +50,16 @@ impl Split {
     }
 }
 
-/// The part of one weight, when `points` are shared over weights that add up to `total`, those before it to `before`.
-/// It is 0 where the total is 0.
-pub fn part(points: u64, total: u64, before: u64, weight: u64) -> u64
-    requires within { before + weight ≤ total }
-    requires total_limit { total < 2 ^ 32 }
-    ensures value { result ≡ part_at points total before weight }
-    ensures bound { result ≤ points }
-{
-    Split {
-        points,
-        total,
-        before,
-    }
-    .part(weight)
-}
-
 /// Shares `points` over the weights, and writes each weight's part to its place in `parts`.
 /// The parts add up to the points; where no weight is above 0 they are 0.
-// Kept as two slices: the library allocates nothing, so the caller lends the places of the parts.
 pub fn share(points: u64, weights: &[u32], parts: &mut [u64])
     requires places { length parts.old ≡ length weights.now }
     requires total_limit { sum weights.now < 2 ^ 32 }
     ensures value { parts.new ≡ parts_of points weights.now }
     ensures adds_up { AddsUp points weights.now parts.new }
     ensures fair { Fair points weights.now parts.new }
+    ensures within { All (λ part. part ≤ points) parts.new }
+    ensures none { sum weights.now ≡ 0 → All (λ part. part ≡ 0) parts.new }
 {
     let total: u32 = weights.iter().sum();
     let mut split = Split {
@@ -81,7 +67,6 @@ pub fn share(points: u64, weights: &[u32], parts: &mut [u64])
         total: u64::from(total),
         before: 0,
     };
-    // Kept by index: in a `for` over a zip with `iter_mut` (tried) nothing is known of what was written, and `iter_mut().enumerate()` is no plainer, since it reads the weights by index.
     for (i, weight) in weights.iter().enumerate() {
         parts[i] = split.next_part(u64::from(*weight));
     }

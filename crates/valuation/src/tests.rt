@@ -1,5 +1,5 @@
 // Worked figures, with the edges on both sides.
-use crate::{amount, cost_amount, excess, share};
+use crate::{MOST_AMOUNT, MOST_COST_AMOUNT, amount, cost_amount, excess, share};
 
 #[test]
 fn amounts(rt: HostRuntime) {
@@ -19,6 +19,7 @@ fn amounts(rt: HostRuntime) {
         assert!(rt; energy <= 4_000_000 && factor <= 150_000 && price <= 2_000_000);
         assert_eq!(rt; amount(energy, factor, price), points);
     }
+    assert_eq!(rt; MOST_AMOUNT, 120_000_000_000);
 }
 
 #[test]
@@ -38,6 +39,7 @@ fn cost_amounts(rt: HostRuntime) {
         assert!(rt; energy <= 4_000_000 && cost <= 2_000_000);
         assert_eq!(rt; cost_amount(energy, cost), points);
     }
+    assert_eq!(rt; MOST_COST_AMOUNT, 80_000_000_000);
 }
 
 #[test]

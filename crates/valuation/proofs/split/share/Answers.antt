@@ -2,7 +2,7 @@
 use Rattle.std.proofs.Common.{◌≡◌, arith}
 use Rattle.std.proofs.lemmas.List.FromFn.{fill_by_all}
 use Rattle.valuation.specs.Sharing.{parts_of}
-use Rattle.valuation.proofs.Sharing.{sum-parts_of, parts_of_fair}
+use Rattle.valuation.proofs.Sharing.{sum-parts_of, parts_of_fair, parts_of_within, parts_of_none}
 use Rattle.valuation.proofs.split.share.Goals as goal
 
 pub returns : goal.returns
@@ -13,4 +13,6 @@ returns c =
       value = value;
       adds_up = rw value (sum-parts_of c.args.points c.args.weights.now);
       fair = rw value (parts_of_fair c.args.points c.args.weights.now);
+      within = rw value (parts_of_within c.args.points c.args.weights.now);
+      none = rw value (parts_of_none c.args.points c.args.weights.now);
     }
