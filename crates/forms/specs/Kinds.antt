@@ -41,7 +41,8 @@ share_takes terms parties =
 -- down; nothing, where they withdrew nothing.
 abbrev pub shared_energy : Facts → ℕ
 shared_energy facts =
-    if facts.distributors_withdrawn == 0 then 0 else (facts.injected * facts.withdrawn / facts.distributors_withdrawn)
+    if facts.distributors_withdrawn == 0 then 0
+    else (facts.injected * facts.withdrawn / facts.distributors_withdrawn)
 
 abbrev pub share : Meaning
 share = record {

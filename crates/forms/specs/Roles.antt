@@ -9,11 +9,13 @@ use Rattle.forms.specs.declared.roles.UnknownRole.{UnknownRole}
 -- 1 is a generator, 2 a distributor, 3 a large consumer
 abbrev pub role_of : (code : ℕ) → Option Role
 role_of code =
-    if code == 1 then Some Generator else (if code == 2 then Some Distributor else (if code == 3 then Some Consumer else None))
+    if code == 1 then Some Generator
+    else (if code == 2 then Some Distributor else (if code == 3 then Some Consumer else None))
 
 -- a number is turned into the role that it names, or, where it names none, into an error that carries it
 abbrev pub NamesRole : (code : ℕ) → Result Role UnknownRole → Type 0
-NamesRole code answer = MatchResult answer (λ role. role_of code ≡ Some role) (λ unknown. (role_of code ≡ None) × (unknown.0 ≡ code))
+NamesRole code answer =
+    MatchResult answer (λ role. role_of code ≡ Some role) (λ unknown. (role_of code ≡ None) × (unknown.0 ≡ code))
 
 -- what is printed of a number that names no role
 abbrev pub unknown_role_text : UnknownRole → List ℕ

@@ -4,6 +4,7 @@ use Rattle.calendar.specs.declared.bands.Band.{Band}
 use Rattle.calendar.specs.declared.bands.Band.TheVariants.{Peak, Medium, Base}
 use Rattle.forms.specs.Market.{cost_of}
 use Rattle.forms.specs.Meaning.{Meaning}
+use Rattle.forms.specs.declared.Legs.{Legs}
 
 -- The base quantity in base hours, a half of it in medium hours and a quarter in peak hours, rounded down.
 abbrev pub profiled : Band → ℕ → ℕ
@@ -11,10 +12,14 @@ profiled Peak base = base / 4
 profiled Medium base = base / 2
 profiled Base base = base
 
+-- The seller gets so many points, and the buyer pays them.
+abbrev pub paid : ℕ → Legs
+paid points = record { seller = pos points; buyer = neg_ℤ (pos points) }
+
 -- A profile has kind 3, a base quantity alone, and no margin; the buyer pays the seller the energy's cost.
 abbrev pub profile : Meaning
 profile = record {
   takes = λ terms parties. (terms.kind == 3) && (terms.peak == 0 && (terms.medium == 0 && terms.margin == 0));
   quantity = λ terms parties facts. profiled facts.band terms.base;
-  legs = λ terms parties facts quantity. record { seller = pos (cost_of terms quantity); buyer = neg_ℤ (pos (cost_of terms quantity)) };
+  legs = λ terms parties facts quantity. paid (cost_of terms quantity);
 }
