@@ -15,7 +15,7 @@ use Rattle.settlement.specs.Limits.{most_excess}
 use Rattle.settlement.specs.Lines.{class_of, line_within, no_line}
 use Rattle.settlement.specs.Posting.{Posting, line_at}
 use Rattle.settlement.specs.PostingFaults.{PostingFits}
-use Rattle.settlement.proofs.Sums.{sum_to_le}
+use Rattle.tally.proofs.Numbers.{sum_to_le}
 
 -- the figures of a line are within their limits
 pub record Within (l : Line) : Type 0 where

@@ -3,7 +3,7 @@ use Rattle.std.proofs.Common.{◌≡◌, ℕ, ◌≤◌, pos, ◌-ℤ◌, sym, �
 use Rattle.std.specs.Int.{int_wrap}
 use Rattle.std.proofs.lemmas.Int.{ints, int_wrap_fits}
 use Rattle.settlement.specs.Limits.{most_points}
-use Rattle.settlement.proofs.Sums.{fits_abs}
+use Rattle.tally.proofs.Numbers.{fits_abs}
 
 -- the difference of two small numbers, as the code works it, is that of the numbers
 pub exact_difference : (a b : ℕ) → a ≤ most_points → b ≤ most_points → to_z w64 (of_z w64 (to_z w64 a -ℤ to_z w64 b)) ≡ pos a -ℤ pos b

@@ -1,11 +1,11 @@
-pub mod Checks
-pub mod PostingFits
-pub mod Sums
+pub mod FaultTables
+pub mod Checked
 pub mod Differences
 pub mod Sharing
 pub mod Bounds
-pub mod Together
 pub mod Settles
+pub mod ContractLines
+pub mod Even
 pub mod Points
 pub mod Powers
 pub mod Packets

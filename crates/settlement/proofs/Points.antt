@@ -1,15 +1,15 @@
 -- Points put on a contract line: none, several, and on the entry of a posting's own lines. Assumes nothing.
-use Rattle.std.proofs.Common.{◌≡◌, ℕ, ◌+◌, ◌-◌, ◌<◌, ◌≤◌, cond, eqb, List, [], ◌∷◌, ◌++◌, length, get_or, take, set, ℤ, pos, ◌+ℤ◌, sym, ap, ◌∙◌, inl, inr, arith}
-use lib.IntN.{+ℤ_idl, +ℤ_idr, +ℤ_assoc}
-use Rattle.std.proofs.lemmas.List.{get_or-set_same, get_or-set_other, take_more}
+use Rattle.std.proofs.Common.{◌≡◌, ℕ, ◌+◌, ◌-◌, ◌<◌, ◌≤◌, cond, eqb, List, length, get_or, set, ℤ, pos, ◌+ℤ◌, sym, ap, ◌∙◌, inl, inr, arith}
+use lib.IntN.{+ℤ_idl}
+use Rattle.std.proofs.lemmas.List.{get_or-set_same, get_or-set_other}
 use Rattle.std.proofs.lemmas.Bool.{cases_eq, cond-true, cond-false, eq-eqb, ne_eqb}
 use Rattle.tally.specs.declared.money.MoneyLine.TheVariants.{Contract}
-use Rattle.tally.specs.Lines.{alone}
+use Rattle.tally.specs.Lines.{Lines, alone}
 use Rattle.tally.specs.Money.{money_of, no_money, money_joined}
-use Rattle.tally.specs.Sums.{int_sum_by}
 use Rattle.tally.specs.Energy.{no_energy, energy_joined}
 use Rattle.tally.specs.MoneyLaws.{money_lawful, money_of_joined}
 use Rattle.tally.specs.EnergyLaws.{energy_lawful}
+use Rattle.tally.proofs.Lines.{contract-joined}
 use Rattle.tally.proofs.PairLaws.{pair_same}
 use Rattle.settlement.specs.Holdings.{Holding, no_holding, with_points, entry_of}
 use Rattle.settlement.specs.Hour.{Figures}
@@ -35,9 +35,9 @@ with_contract points f = record f { lines = record f.lines { contract = points }
 -- the entry of figures without contracts, with points, is that of the figures with them
 pub points_entry : (points : ℤ) (f : Figures) → with_points points (entry_of (with_contract (pos 0) f)) ≡ entry_of (with_contract points f)
 points_entry points f =
+    let own : Lines = record f.lines { contract = pos 0 } in
     pair_same _ _
-    (money_of_joined (record f.lines { contract = pos 0 }) (alone Contract points)
-    ∙ (λ t. money_of (record { market = +ℤ_idr f.lines.market t; contract = +ℤ_idl points t; overcost = +ℤ_idr f.lines.overcost t; power = +ℤ_idr f.lines.power t })))
+    (money_of_joined own (alone Contract points) ∙ ap money_of (contract-joined own points) ∙ (λ t. money_of (record own { contract = +ℤ_idl points t })))
     (energy_lawful.commutative (entry_of f).second no_energy ∙ energy_lawful.identity (entry_of f).second)
 
 -- points put on the entry of the agent with a number
@@ -55,13 +55,3 @@ points_placed fresh number points i some known within = elim (cases_eq number (i
       ∙ sym (points_none (get_or fresh i no_holding))
       ∙ ap (λ z. with_points z (get_or fresh i no_holding)) (sym (cond-false (eqb number (i + 1)) points (pos 0) (ne_eqb number (i + 1) apart)))
 ]
-
--- a sum over one list after another
-int_sum_by-append : {X : Type 0} (f : X → ℤ) (xs ys : List X) → int_sum_by f (xs ++ ys) ≡ int_sum_by f xs +ℤ int_sum_by f ys
-int_sum_by-append f [] ys = sym (+ℤ_idl (int_sum_by f ys))
-int_sum_by-append f (x ∷ xs) ys = ap (λ z. f x +ℤ z) (int_sum_by-append f xs ys) ∙ sym (+ℤ_assoc (f x) (int_sum_by f xs) (int_sum_by f ys))
-
--- a sum over the first items of a list, with one more
-pub int_sum_by_more : {X : Type 0} (f : X → ℤ) (xs : List X) (i : ℕ) (d : X) → i < length xs → int_sum_by f (take (i + 1) xs) ≡ int_sum_by f (take i xs) +ℤ f (get_or xs i d)
-int_sum_by_more f xs i d within =
-    ap (int_sum_by f) (take_more xs i d within) ∙ int_sum_by-append f (take i xs) (get_or xs i d ∷ []) ∙ ap (λ z. int_sum_by f (take i xs) +ℤ z) (+ℤ_idr (f (get_or xs i d)))

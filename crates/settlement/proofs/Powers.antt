@@ -8,9 +8,9 @@ use Rattle.forms.specs.Roles.{carries}
 use Rattle.settlement.specs.Agents.{agent_at}
 use Rattle.settlement.specs.Holdings.{Holding, no_holding, withdrawn_on, all_withdrawn}
 use Rattle.settlement.specs.Power.{power_due, power_weight, power_weights, power_part}
-use Rattle.settlement.specs.Sums.{sum_to}
+use Rattle.tally.specs.Sums.{sum_to}
 use Rattle.settlement.proofs.Sharing.{counted_le}
-use Rattle.settlement.proofs.Sums.{sum_to_mono, sum_by_list, sum_counting}
+use Rattle.tally.proofs.Numbers.{sum_to_mono, sum_by_list, sum_counting}
 
 module _ (agents : List Agent) (accounts : List Holding) (long : length accounts ≡ length agents) where
   -- all weights together are at most the withdrawn energy of all accounts

@@ -1,8 +1,7 @@
 -- A contract that may stand, in an hour whose posting fits, may be asked of its form by the facts of that hour. Assumes nothing.
-use Rattle.std.proofs.Common.{◌≡◌, ℕ, zero, suc, ◌+◌, ◌-◌, ◌<◌, ◌≤◌, Bool, true, false, not, cond, ◌&&◌, ltb, leb, List, [], ◌∷◌, length, None, Some, Option, sym, refl, ap, inl, inr, arith}
-use Rattle.std.specs.Prelude.{is_none}
+use Rattle.std.proofs.Common.{◌≡◌, ℕ, ◌+◌, ◌-◌, ◌<◌, ◌≤◌, Bool, true, false, cond, ◌&&◌, ltb, leb, List, length, refl, arith}
 use Rattle.std.specs.List.{list_all}
-use Rattle.std.proofs.lemmas.Bool.{and_parts, leb-true, ltb-true, le-leb, cases_eq, not-false, cond-true, cond-false}
+use Rattle.std.proofs.lemmas.Bool.{and_parts, leb-true, ltb-true, le-leb, cond-true, cond-false}
 use Rattle.std.proofs.lemmas.List.Elements.{All-weaker}
 use Rattle.std.proofs.lemmas.List.Sums.{AllPass-from_list_all}
 use Rattle.calendar.specs.Limits.{most_days, most_hours}
@@ -14,24 +13,20 @@ use Rattle.forms.specs.Meaning.{MayAsk}
 use Rattle.forms.specs.Measured.{prices_fit, withdrawn_fits, Measured}
 use Rattle.forms.specs.Parties.{party_numbers}
 use Rattle.forms.specs.Roles.{distributes, has_role}
-use Rattle.forms.specs.Terms.{Valid, parties_fit, hours_fit, figures_fit}
+use Rattle.forms.specs.Terms.{Valid, number_fits, numbers_apart, parties_fit, hours_fit, figures_fit}
 use Rattle.valuation.specs.Limits.{most_energy, most_price, least_factor, most_factor}
 use Rattle.settlement.specs.declared.agents.Agent.{Agent}
-use Rattle.settlement.specs.declared.faults.BookFault.{BookFault}
-use Rattle.settlement.specs.declared.faults.BookFault.TheVariants.{ContractTerms}
 use Rattle.settlement.specs.declared.lines.Line.{Line}
 use Rattle.settlement.specs.Agents.{agent_at, counted}
-use Rattle.settlement.specs.ContractFaults.{parties_of, in_book, PartiesKnown, contract_fault, contract_fits}
-use Rattle.settlement.specs.Faults.{met_if}
+use Rattle.settlement.specs.ContractFaults.{parties_of, in_book, PartiesKnown, contract_faults, contract_fault, contract_fits}
 use Rattle.settlement.specs.Legs.{distributors_withdrawn, facts_of}
 use Rattle.settlement.specs.Posting.{Posting, line_at}
 use Rattle.settlement.specs.PostingFaults.{withdrawn_together, PostingFits}
 use Rattle.settlement.specs.Setting.{Setting, hours_in}
-use Rattle.settlement.specs.Sums.{sum_to}
 use Rattle.settlement.proofs.Bounds.{within_limits}
-use Rattle.settlement.proofs.PostingFits.{unmet, none_met}
+use Rattle.settlement.proofs.FaultTables.{kept, NoneMet, first_met_none, none_is}
 use Rattle.settlement.proofs.Sharing.{counted_le}
-use Rattle.settlement.proofs.Sums.{sum_to_mono, sum_to_item_le}
+use Rattle.tally.proofs.Numbers.{sum_to_mono, sum_to_item_le, sum_to_spare}
 
 -- ---- a contract that may stand
 
@@ -39,18 +34,10 @@ use Rattle.settlement.proofs.Sums.{sum_to_mono, sum_to_item_le}
 pub record Fitting (setting : Setting) (c : Contract) : Type 0 where
   pub known : PartiesKnown (length setting.agents) c
   pub between : parties_fit c (parties_of setting.agents c) ≡ true
+  pub apart : numbers_apart (party_numbers c) ≡ true
   pub hours : hours_fit (hours_in setting) c ≡ true
   pub figures : figures_fit c ≡ true
   pub taken : setting.form.takes c (parties_of setting.agents c) ≡ true
-
--- a test whose failing is a fault passed, if the fault is not met
-kept : {F : Type 0} (test : Bool) (fault : F) → met_if (not test) fault ≡ None → test ≡ true
-kept test fault none = not-false test (unmet (not test) fault (sym none))
-
--- where there is none, it is none
-is_none_lem : {X : Type 0} (o : Option X) → is_none o ≡ true → o ≡ None
-is_none_lem None none = refl
-is_none_lem (Some x) none = cc
 
 -- numbers of the book are 1 to its number of agents
 numbers_known : (agents : List Agent) (c : Contract) → list_all (in_book agents) (party_numbers c) ≡ true → PartiesKnown (length agents) c
@@ -63,18 +50,14 @@ pub fitting : (setting : Setting) (c : Contract) → contract_fits setting c ≡
 fitting setting c fits =
     let parties = parties_of setting.agents c in
     let known : Bool = list_all (in_book setting.agents) (party_numbers c) in
-    let last : List (Option BookFault) = [] in
-    let terms : Option BookFault = met_if (not (figures_fit c && setting.form.takes c parties)) ContractTerms in
-    let hours : Option BookFault = met_if (not (hours_fit (hours_in setting) c)) ContractTerms in
-    let a = none_met (met_if (not (known && parties_fit c parties)) ContractTerms) (hours ∷ terms ∷ last) (is_none_lem (contract_fault setting c) fits) in
-    let b = none_met hours (terms ∷ last) a.1 in
-    let d = none_met terms last b.1 in
-    let between = and_parts known (parties_fit c parties) (kept _ _ a.0) in
-    let others = and_parts (figures_fit c) (setting.form.takes c parties) (kept _ _ d.0) in
+    let none : NoneMet (contract_faults setting c) = first_met_none (contract_faults setting c) (none_is (contract_fault setting c) fits) in
+    let between = and_parts known (parties_fit c parties) (kept _ _ none.0) in
+    let others = and_parts (figures_fit c) (setting.form.takes c parties) (kept _ _ none.1.1.0) in
     record {
       known = numbers_known setting.agents c between.0;
       between = between.1;
-      hours = kept _ _ b.0;
+      apart = (and_parts (list_all number_fits (party_numbers c)) _ (and_parts (list_all number_fits (party_numbers c) && numbers_apart (party_numbers c)) _ between.1).0).1;
+      hours = kept _ _ none.1.0;
       figures = others.0;
       taken = others.1;
     }
@@ -92,14 +75,6 @@ valid_terms_lem setting c few fitting =
     valid_of c (parties_of setting.agents c) fitting.between (hours_fit_longest (hours_in setting) c (omega arith) fitting.hours) fitting.figures
 
 -- ---- the distributors' energy
-
--- no larger item by item, and none of one item: together with that item no larger either
-pub sum_to_spare : (n : ℕ) (f g : ℕ → ℕ) (k : ℕ) → k < n → ((j : ℕ) → j < n → f j ≤ g j) → f k ≡ 0 → g k + sum_to n f ≤ sum_to n g
-sum_to_spare zero f g k within each none = absurd (omega arith)
-sum_to_spare (suc n) f g k within each none = elim (cases_eq k n) [
-  | inl here ↦ omega (arith, ap f here, ap g here, sum_to_mono n f g (λ j below. each j (omega arith)))
-  | inr before ↦ omega (arith, each n (omega arith), sum_to_spare n f g k (omega arith) (λ j below. each j (omega arith)) none)
-]
 
 module _ (agents : List Agent) (lines : List Line) where
   -- what an agent withdrew, if it is a distributor

@@ -8,7 +8,7 @@ use Rattle.settlement.specs.Agents.{agent_at, counted}
 use Rattle.settlement.specs.Hour.{weight_at, weights_of}
 use Rattle.settlement.specs.Posting.{line_at}
 use Rattle.settlement.specs.PostingFaults.{withdrawn_together}
-use Rattle.settlement.proofs.Sums.{sum_to_mono, sum_counting}
+use Rattle.tally.proofs.Numbers.{sum_to_mono, sum_counting}
 
 -- what counts is at most all of it
 pub counted_le : (such : Role → Bool) (code energy : ℕ) → counted such code energy ≤ energy

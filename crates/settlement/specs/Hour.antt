@@ -13,7 +13,7 @@ use Rattle.settlement.specs.declared.lines.Line.{Line}
 use Rattle.settlement.specs.Agents.{agent_at, counted}
 use Rattle.settlement.specs.Lines.{class_of}
 use Rattle.settlement.specs.Posting.{Posting, line_at}
-use Rattle.settlement.specs.Sums.{sum_to}
+use Rattle.tally.specs.Sums.{sum_to}
 
 -- what the injected energy of a line is worth, at its node and the hour's price
 abbrev pub injected_amount : (price : ℕ) → Line → ℕ

@@ -15,7 +15,7 @@ use Rattle.settlement.specs.ContractFaults.{parties_of, covers}
 use Rattle.settlement.specs.Hour.{caused_sum, carried_by, Figures, figures_with}
 use Rattle.settlement.specs.Posting.{Posting, line_at}
 use Rattle.settlement.specs.Setting.{Setting}
-use Rattle.settlement.specs.Sums.{sum_to}
+use Rattle.tally.specs.Sums.{sum_to}
 
 -- the energy that all distributors withdrew
 abbrev pub distributors_withdrawn : List Agent → List Line → ℕ

@@ -2,7 +2,6 @@ pub mod Limits
 pub mod Agents
 pub mod Lines
 pub mod Faults
-pub mod Sums
 pub mod Posting
 pub mod Setting
 pub mod ContractFaults

@@ -16,7 +16,7 @@ use Rattle.settlement.specs.Hour.{obligated_sum, weights_of}
 use Rattle.settlement.specs.Lines.{line_within, line_kept}
 use Rattle.settlement.specs.Posting.{Posting, line_at}
 use Rattle.settlement.specs.Setting.{Setting, hours_in}
-use Rattle.settlement.specs.Sums.{sum_to}
+use Rattle.tally.specs.Sums.{sum_to}
 
 -- 4: the hour lies outside a month of so many hours
 abbrev pub hour_fault : (hours hour : ℕ) → Option LineFault
@@ -51,11 +51,14 @@ abbrev pub together_fault : List Line → Option LineFault
 together_fault lines =
     met_if (nat_lt most_energy (injected_together lines) || nat_lt most_energy (withdrawn_together lines)) TooMuchTogether
 
--- the first fault of a posting's own figures, in the order of the numbers
+-- the faults of a posting's own figures, in the order of the numbers, and the first of them
+abbrev pub line_faults : Setting → Posting → List (Option LineFault)
+line_faults setting p =
+    hour_fault (hours_in setting) p.hour ∷ head_fault (length setting.agents) p ∷ limit_fault p.lines
+    ∷ rule_fault setting.agents p.lines ∷ together_fault p.lines ∷ []
+
 abbrev pub line_fault : Setting → Posting → Option LineFault
-line_fault setting p =
-    first_met (hour_fault (hours_in setting) p.hour ∷ head_fault (length setting.agents) p ∷ limit_fault p.lines
-    ∷ rule_fault setting.agents p.lines ∷ together_fault p.lines ∷ [])
+line_fault setting p = first_met (line_faults setting p)
 
 -- 8: there is obligated excess, and no weight carries it
 abbrev pub uncarried : List Agent → Posting → Bool

@@ -7,7 +7,7 @@ use Rattle.settlement.specs.Agents.{agent_at, counted}
 use Rattle.settlement.specs.Holdings.{Holding, no_holding, holding_joined, withdrawn_on, power_points}
 use Rattle.settlement.specs.Hour.{weights_in}
 use Rattle.settlement.specs.Limits.{points_per_kw}
-use Rattle.settlement.specs.Sums.{sum_to}
+use Rattle.tally.specs.Sums.{sum_to}
 
 -- what an agent is credited for its remunerable power
 abbrev pub power_credit : List Agent → ℕ → ℕ

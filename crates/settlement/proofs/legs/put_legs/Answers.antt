@@ -7,8 +7,8 @@ use Rattle.forms.specs.Limits.{most_leg}
 use Rattle.forms.specs.Parties.{party_numbers, points_of, legs_by_party}
 use Rattle.settlement.specs.Holdings.{Holding, no_holding, with_points}
 use Rattle.settlement.specs.Legs.{is_number, given_to}
-use Rattle.settlement.proofs.Points.{points_none, points_more, int_sum_by_more}
-use Rattle.settlement.proofs.Sums.{fits_abs}
+use Rattle.settlement.proofs.Points.{points_none, points_more}
+use Rattle.tally.proofs.Numbers.{fits_abs, int_sum_by_more}
 use Rattle.settlement.proofs.legs.put_legs.Goals as goal
 
 pub loop-number-init : goal.loop-number-init

@@ -7,8 +7,9 @@ use Rattle.settlement.specs.Holdings.{Holding, no_holding, with_points}
 use Rattle.settlement.specs.Legs.{is_number, given_in}
 use Rattle.settlement.specs.Posting.{Posting, posting_of}
 use Rattle.settlement.specs.Setting.{Setting, setting_of}
-use Rattle.settlement.proofs.Checks.{all_each}
-use Rattle.settlement.proofs.Points.{points_none, points_more, int_sum_by_more}
+use Rattle.tally.proofs.Failing.{all_each}
+use Rattle.tally.proofs.Numbers.{int_sum_by_more}
+use Rattle.settlement.proofs.Points.{points_none, points_more}
 use Rattle.settlement.proofs.legs.HourSetting.put_contracts.Goals as goal
 
 pub loop-place-init : goal.loop-place-init

@@ -9,7 +9,7 @@ use Rattle.settlement.specs.Agents.{no_agent, counted}
 use Rattle.settlement.specs.Lines.{no_line}
 use Rattle.settlement.specs.Legs.{distributors_withdrawn}
 use Rattle.settlement.proofs.Settles.{distributors_le}
-use Rattle.settlement.proofs.Sums.{sum_by_zip}
+use Rattle.tally.proofs.Numbers.{sum_by_zip}
 use Rattle.settlement.proofs.postings.CheckedPosting.distributors_withdrawn.Goals as goal
 
 -- what the agent of a line withdrew, if it is a distributor

@@ -5,7 +5,7 @@ use Rattle.settlement.specs.Hour.{obligated_on}
 use Rattle.settlement.specs.Lines.{line_within, no_line}
 use Rattle.settlement.specs.Posting.{Posting, posting_of}
 use Rattle.settlement.proofs.Bounds.{item_within, obligated_le}
-use Rattle.settlement.proofs.Sums.{sum_by_list}
+use Rattle.tally.proofs.Numbers.{sum_by_list}
 use Rattle.settlement.proofs.postings.CheckedPosting.obligated_excess.Goals as goal
 
 pub sum-requires-clause-can : goal.sum-requires-clause-can

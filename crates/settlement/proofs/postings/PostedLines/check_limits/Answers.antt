@@ -8,7 +8,7 @@ use Rattle.settlement.specs.declared.faults.LineFault.TheVariants.{OutsideLimit}
 use Rattle.settlement.specs.declared.lines.Line.{Line}
 use Rattle.settlement.specs.Lines.{line_within, no_line}
 use Rattle.settlement.specs.Posting.{line_at}
-use Rattle.settlement.proofs.Checks.{first_is}
+use Rattle.tally.proofs.Failing.{first_is}
 use Rattle.settlement.proofs.postings.PostedLines.check_limits.Goals as goal
 
 -- the first line with a figure outside its limit, by its place

@@ -13,7 +13,7 @@ use Rattle.forms.specs.Roles.{role_of}
 use Rattle.settlement.specs.Agents.{no_agent}
 use Rattle.settlement.specs.Lines.{line_kept, no_line}
 use Rattle.settlement.specs.PostingFaults.{kept_at}
-use Rattle.settlement.proofs.Checks.{first_is}
+use Rattle.tally.proofs.Failing.{first_is}
 use Rattle.settlement.proofs.postings.PostedLines.check_rules.Goals as goal
 
 -- a line of an agent that breaks the rule of its class

@@ -4,7 +4,7 @@ use Rattle.std.proofs.lemmas.Iterator.Consumers.{sum_by_from_yields_List}
 use Rattle.settlement.specs.declared.agents.Agent.{Agent}
 use Rattle.settlement.specs.Agents.{no_agent}
 use Rattle.settlement.specs.Limits.{points_per_kw, most_credit}
-use Rattle.settlement.proofs.Sums.{sum_by_list, sum_to_le}
+use Rattle.tally.proofs.Numbers.{sum_by_list, sum_to_le}
 use Rattle.settlement.proofs.power.MonthPowerCarried.points.Goals as goal
 
 -- a credit, which is at most that of the highest power that a figure can be

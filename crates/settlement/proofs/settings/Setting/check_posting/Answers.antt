@@ -1,6 +1,6 @@
 use Rattle.std.proofs.Common.{length, sym, arith}
 use Rattle.settlement.specs.Posting.{Posting, posting_of}
-use Rattle.settlement.proofs.PostingFits.{head_long, posting_fits}
+use Rattle.settlement.proofs.Checked.{head_long, posting_fits}
 use Rattle.settlement.proofs.settings.Setting.check_posting.Goals as goal
 
 pub invariant_of-posted : goal.invariant_of-posted

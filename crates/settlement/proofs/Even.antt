@@ -1,5 +1,6 @@
--- What a posting gives all agents together: the market lines add up to minus the hour's residue, and the overcost lines to 0. Assumes nothing.
-use Rattle.std.proofs.Common.{◌≡◌, ℕ, zero, suc, ◌+◌, ◌-◌, ◌<◌, ◌≤◌, Bool, true, false, cond, ◌&&◌, eqb, ltb, leb, ◌⊎◌, List, length, pos, ◌+ℤ◌, ◌-ℤ◌, neg_ℤ, Some, None, sum, Option, sym, refl, ap, ◌∙◌, subst, inl, inr, eq-zero-or-pos, arith}
+-- What an hour gives all agents together: it comes out even. Assumes nothing.
+use Rattle.std.proofs.Common.{◌≡◌, ℕ, ◌+◌, ◌-◌, ◌<◌, ◌≤◌, Bool, true, false, cond, ◌&&◌, eqb, ltb, leb, ◌⊎◌, List, length, pos, ◌+ℤ◌, ◌-ℤ◌, neg_ℤ, Some, None, sum, Option, sym, refl, ap, ◌∙◌, subst, inl, inr, eq-zero-or-pos, arith}
+use Rattle.std.specs.List.{list_all}
 use Rattle.std.proofs.lemmas.List.FromFn.{length-map-range_with_len}
 use Rattle.std.proofs.lemmas.Int.{ints}
 use Rattle.std.proofs.lemmas.Bool.{false≢true, and_parts, and_cases, leb-true, ltb-false, eq-eqb, ne_eqb, eqb-false, cond-true, cond-false}
@@ -15,13 +16,20 @@ use Rattle.settlement.specs.Hour.{injected_amount, withdrawn_amount, market_line
 use Rattle.settlement.specs.Lines.{class_of, must_run, class_kept, line_kept}
 use Rattle.settlement.specs.Posting.{Posting, line_at}
 use Rattle.settlement.specs.PostingFaults.{kept_at, uncarried}
-use Rattle.settlement.specs.Sums.{sum_to, sum_to_ℤ}
-use Rattle.settlement.proofs.Sums.{sum_to_same, sum_to_change, sum_to_const_zero, sum_to_zero, sum_to_add, sum_to_swap, sum_to_ℤ_add, sum_counting}
-
--- a sum of differences
-pub sum_to_ℤ_less : (n : ℕ) (f g : ℕ → ℕ) → sum_to_ℤ n (λ k. pos (f k) -ℤ pos (g k)) ≡ pos (sum_to n f) -ℤ pos (sum_to n g)
-sum_to_ℤ_less zero f g = refl
-sum_to_ℤ_less (suc n) f g = omega (arith, ints, sum_to_ℤ_less n f g)
+use Rattle.calendar.specs.Limits.{most_days}
+use Rattle.tally.specs.declared.money.MoneyLine.{MoneyLine}
+use Rattle.tally.specs.declared.money.MoneyLine.TheVariants.{Market, Contract, Overcost, Power}
+use Rattle.tally.specs.Lines.{Lines, line_on, no_lines}
+use Rattle.tally.specs.LinesLaws.{lines_same}
+use Rattle.tally.specs.Sums.{sum_to, sum_to_ℤ, lines_over}
+use Rattle.tally.proofs.Lines.{line_on-over}
+use Rattle.tally.proofs.Numbers.{sum_to_same, sum_to_change, sum_to_const_zero, sum_to_zero, sum_to_add, sum_to_swap, sum_to_ℤ_const_zero, sum_to_ℤ_less, sum_counting}
+use Rattle.forms.specs.Meaning.{Keeps}
+use Rattle.settlement.specs.ContractFaults.{place_fits}
+use Rattle.settlement.specs.Legs.{hour_of}
+use Rattle.settlement.specs.Setting.{Setting, count_in}
+use Rattle.settlement.proofs.Checked.{Checked}
+use Rattle.settlement.proofs.ContractLines.{contract_lines_together}
 
 -- ---- the excess of a line
 
@@ -110,7 +118,29 @@ module _ (agents : List Agent) (p : Posting) (long : length p.lines ≡ length a
   overcost_together =
       omega (arith, ints, excess_together, sum_to_ℤ_less (length p.lines) (λ i. excess_on p.price (line_at p.lines i)) (λ i. caused_sum p i + carried_by agents p i))
 
-  -- what a posting gives all agents together
-  pub lines_together : sum_to_ℤ (length p.lines) (λ i. market_line p.price (line_at p.lines i) +ℤ overcost_line agents p i) ≡ neg_ℤ (residue_of p)
-  lines_together =
-      omega (arith, ints, market_together, overcost_together, sum_to_ℤ_add (length p.lines) (λ i. market_line p.price (line_at p.lines i)) (overcost_line agents p))
+-- what comes of each agent's lines of an hour, all agents together: the market lines come to minus the residue, the others to nothing
+pub record Even (setting : Setting) (p : Posting) : Type 0 where
+  pub market : sum_to_ℤ (count_in setting) (λ i. (hour_of setting p i).lines.market) ≡ neg_ℤ (residue_of p)
+  pub contract : sum_to_ℤ (count_in setting) (λ i. (hour_of setting p i).lines.contract) ≡ pos 0
+  pub overcost : sum_to_ℤ (count_in setting) (λ i. (hour_of setting p i).lines.overcost) ≡ pos 0
+
+-- an hour comes out even: a posting that no fault was met by, with contracts that may stand
+pub even : (setting : Setting) (p : Posting) → Keeps setting.form → setting.days ≤ most_days → list_all (place_fits setting) setting.places ≡ true → Checked setting p → Even setting p
+even setting p keeps few fit checked = record {
+  market = subst (λ n. sum_to_ℤ n (λ i. market_line p.price (line_at p.lines i)) ≡ neg_ℤ (residue_of p)) checked.long (market_together setting.agents p checked.long checked.kept checked.carried);
+  contract = contract_lines_together setting keeps few p checked.long checked.fits fit;
+  overcost = subst (λ n. sum_to_ℤ n (overcost_line setting.agents p) ≡ pos 0) checked.long (overcost_together setting.agents p checked.long checked.kept checked.carried);
+}
+
+-- as lines
+pub even_lines : (setting : Setting) (p : Posting) → Even setting p → lines_over 0 (count_in setting) (λ i. (hour_of setting p i).lines) ≡ record no_lines { market = neg_ℤ (residue_of p) }
+even_lines setting p even = lines_same _ _ each
+  where
+    lines : ℕ → Lines
+    lines i = (hour_of setting p i).lines
+
+    each : (line : MoneyLine) → line_on line (lines_over 0 (count_in setting) lines) ≡ line_on line (record no_lines { market = neg_ℤ (residue_of p) })
+    each Market = line_on-over Market 0 (count_in setting) lines ∙ even.market
+    each Contract = line_on-over Contract 0 (count_in setting) lines ∙ even.contract
+    each Overcost = line_on-over Overcost 0 (count_in setting) lines ∙ even.overcost
+    each Power = line_on-over Power 0 (count_in setting) lines ∙ sum_to_ℤ_const_zero (count_in setting)

@@ -1,0 +1,156 @@
+-- The legs of contracts that may stand: their size, what they add up to, and that forms that are alike give the same. Assumes nothing.
+use Rattle.std.proofs.Common.{◌≡◌, ℕ, ◌+◌, ◌-◌, ◌*◌, ◌<◌, ◌≤◌, Bool, true, false, not, cond, ◌&&◌, eqb, List, [], ◌∷◌, map, length, get_or, ℤ, pos, ◌+ℤ◌, nat_abs, Some, None, Option, sym, refl, ap, ◌∙◌, subst, inl, inr, arith}
+use Rattle.std.specs.List.{All, list_all}
+use Rattle.std.proofs.lemmas.Int.{ints}
+use Rattle.std.proofs.lemmas.Bool.{and_parts, cases_eq, cond-true, cond-false, cond_both, eq-eqb, ne_eqb, eqb-true, not-true}
+use Rattle.std.proofs.lemmas.List.Elements.{All-head, All-tail}
+use Rattle.std.proofs.lemmas.Slice.Zip.{get_or-zip}
+use Rattle.calendar.specs.Limits.{most_days}
+use Rattle.tally.specs.Sums.{sum_to_ℤ}
+use Rattle.tally.proofs.Numbers.{sum_to_ℤ_change, sum_to_ℤ_const_zero, sum_to_ℤ_add, int_sum_by_same, int_sum_by_zero, int_sum_by_abs, int_sum_over_by}
+use Rattle.tally.proofs.Sums.{All-passing}
+use Rattle.forms.specs.declared.Contract.{Contract}
+use Rattle.forms.specs.declared.Legs.{Legs}
+use Rattle.forms.specs.Limits.{most_leg}
+use Rattle.forms.specs.Meaning.{Meaning, MayAsk, Balanced, Keeps, Alike}
+use Rattle.forms.specs.Parties.{party_numbers, points_of, points_together, legs_by_party}
+use Rattle.forms.specs.Terms.{numbers_apart, parties_fit}
+use Rattle.settlement.specs.ContractFaults.{parties_of, PartiesKnown, contract_fits, place_fits, covers}
+use Rattle.settlement.specs.Legs.{facts_of, legs_of, is_number, given_to, given_in, contract_points_of, contract_line}
+use Rattle.settlement.specs.Posting.{Posting}
+use Rattle.settlement.specs.PostingFaults.{PostingFits}
+use Rattle.settlement.specs.Setting.{Setting}
+use Rattle.settlement.proofs.Settles.{Fitting, fitting, settles}
+
+-- ---- legs by party
+
+-- what one number of a book is given, and no other, is given once
+once : (n number : ℕ) (z : ℤ) → 1 ≤ number → number ≤ n → sum_to_ℤ n (λ i. cond (eqb number (i + 1)) z (pos 0)) ≡ z
+once n number z least most =
+    let here = cond-true (eqb number (number - 1 + 1)) z (pos 0) (eq-eqb number (number - 1 + 1) (omega arith)) in
+    let only = sum_to_ℤ_change n (λ i. pos 0) (λ i. cond (eqb number (i + 1)) z (pos 0)) (number - 1) (omega arith)
+    (λ i below other. cond-false (eqb number (i + 1)) z (pos 0) (ne_eqb number (i + 1) (λ e. other (omega arith)))) in
+    omega (arith, ints, sum_to_ℤ_const_zero n)
+
+-- the number of a leg is one of a book of so many
+abbrev Known : ℕ → ℕ × ℤ → Type 0
+Known n leg = (1 ≤ leg.0) × (leg.0 ≤ n)
+
+-- legs of a book's agents come to their points together
+given_together : (n : ℕ) (legs : List (ℕ × ℤ)) → All (Known n) legs → sum_to_ℤ n (λ i. given_to (is_number i) legs) ≡ points_together (map (λ leg. leg.1) legs)
+given_together n [] known = sum_to_ℤ_const_zero n
+given_together n (leg ∷ legs) known =
+    let here = All-head (Known n) leg legs known in
+    sum_to_ℤ_add n (λ i. cond (eqb leg.0 (i + 1)) leg.1 (pos 0)) (λ i. given_to (is_number i) legs)
+    ∙ (λ t. once n leg.0 leg.1 here.0 here.1 t +ℤ given_together n legs (All-tail (Known n) leg legs known) t)
+
+-- an agent is given nothing of others' legs
+given_none : (i : ℕ) (legs : List (ℕ × ℤ)) → list_all (λ other. not (eqb (i + 1) other)) (map (λ leg. leg.0) legs) ≡ true → given_to (is_number i) legs ≡ pos 0
+given_none i [] apart = refl
+given_none i (leg ∷ legs) apart =
+    let parts = and_parts (not (eqb (i + 1) leg.0)) _ apart in
+    let other = cond-false (eqb leg.0 (i + 1)) leg.1 (pos 0) (ne_eqb leg.0 (i + 1) (λ e. both (eqb (i + 1) leg.0) (eq-eqb (i + 1) leg.0 (sym e)) parts.0)) in
+    omega (arith, ints, given_none i legs parts.1)
+  where
+    both : (test : Bool) → test ≡ true → not test ≡ true → ⊥
+    both true is is_not = cc
+    both false is is_not = cc
+
+-- of legs of numbers that are apart it gets one at most
+given_abs : (i : ℕ) (legs : List (ℕ × ℤ)) → numbers_apart (map (λ leg. leg.0) legs) ≡ true → All (λ leg. nat_abs leg.1 ≤ most_leg) legs → nat_abs (given_to (is_number i) legs) ≤ most_leg
+given_abs i [] apart within = omega arith
+given_abs i (leg ∷ legs) apart within =
+    let parts = and_parts (list_all (λ other. not (eqb leg.0 other)) (map (λ (x : ℕ × ℤ). x.0) legs)) _ apart in
+    let small = All-head (λ (x : ℕ × ℤ). nat_abs x.1 ≤ most_leg) leg legs within in
+    elim (cases_eq leg.0 (i + 1)) [
+      | inl is ↦
+          let rest = given_none i legs (subst (λ (number : ℕ). list_all (λ other. not (eqb number other)) (map (λ (x : ℕ × ℤ). x.0) legs) ≡ true) is parts.0) in
+          omega (arith, ints, cond-true (eqb leg.0 (i + 1)) leg.1 (pos 0) (eq-eqb leg.0 (i + 1) is))
+      | inr other ↦
+          omega (
+            arith,
+            ints,
+            cond-false (eqb leg.0 (i + 1)) leg.1 (pos 0) (ne_eqb leg.0 (i + 1) other),
+            given_abs i legs parts.1 (All-tail (λ (x : ℕ × ℤ). nat_abs x.1 ≤ most_leg) leg legs within),
+          )
+    ]
+
+-- a leg of a contract has a number and points of the two lists
+leg_at : (c : Contract) (legs : Legs) (k : ℕ) (leg : ℕ × ℤ) → k < length (legs_by_party c legs) →
+    get_or (legs_by_party c legs) k leg ≡ (get_or (party_numbers c) k leg.0, get_or (points_of legs) k leg.1)
+leg_at c legs k leg within = get_or-zip (party_numbers c) (points_of legs) k leg within within
+
+module _ (c : Contract) (legs : Legs) (balanced : Balanced legs) where
+  -- the legs of a contract of a book's agents cancel
+  legs_cancel : (n : ℕ) → PartiesKnown n c → sum_to_ℤ n (λ i. given_to (is_number i) (legs_by_party c legs)) ≡ pos 0
+  legs_cancel n known =
+      given_together n (legs_by_party c legs) (λ k leg within. subst (Known n) (sym (leg_at c legs k leg within)) (known k leg.0 within)) ∙ balanced.cancel
+
+  -- and each agent gets one of them at most
+  legs_abs : numbers_apart (party_numbers c) ≡ true → (i : ℕ) → nat_abs (given_to (is_number i) (legs_by_party c legs)) ≤ most_leg
+  legs_abs apart i =
+      given_abs i (legs_by_party c legs) apart
+      (λ k leg within. subst (λ (x : ℕ × ℤ). nat_abs x.1 ≤ most_leg) (sym (leg_at c legs k leg within)) (balanced.within k leg.1 within))
+
+-- ---- an hour
+
+module _ (setting : Setting) (keeps : Keeps setting.form) (few : setting.days ≤ most_days) (p : Posting) (long : length p.lines ≡ length setting.agents) (sane : PostingFits p) where
+  -- the form may be asked for each of the contracts
+  asked : (c : Contract) → contract_fits setting c ≡ true → MayAsk setting.form c (parties_of setting.agents c) (facts_of setting p c)
+  asked c = settles setting p c few long sane
+
+  -- the legs of a contract are within their limits, and cancel
+  pub legs_balanced : (c : Contract) → contract_fits setting c ≡ true → Balanced (legs_of setting p c)
+  legs_balanced c fits =
+      let parties = parties_of setting.agents c in
+      let facts = facts_of setting p c in
+      keeps.legs c parties facts (setting.form.quantity c parties facts) (asked c fits) (keeps.quantity c parties facts (asked c fits))
+
+  -- what a contract place gives an agent
+  given_in_abs : (i : ℕ) (place : Option Contract) → place_fits setting place ≡ true → nat_abs (given_in (is_number i) setting p place) ≤ most_leg
+  given_in_abs i None fits = omega arith
+  given_in_abs i (Some c) fits =
+      cond_both (covers c p.hour) (given_to (is_number i) (legs_by_party c (legs_of setting p c))) (pos 0) (λ z. nat_abs z ≤ most_leg)
+      (λ covered. legs_abs c (legs_of setting p c) (legs_balanced c fits) (fitting setting c fits).apart i) (λ apart. omega arith)
+
+  -- comes to nothing over all agents
+  given_in_together : (place : Option Contract) → place_fits setting place ≡ true → sum_to_ℤ (length setting.agents) (λ i. given_in (is_number i) setting p place) ≡ pos 0
+  given_in_together None fits = sum_to_ℤ_const_zero (length setting.agents)
+  given_in_together (Some c) fits = by (covers c p.hour)
+    where
+      by : (covered : Bool) → sum_to_ℤ (length setting.agents) (λ i. cond covered (given_to (is_number i) (legs_by_party c (legs_of setting p c))) (pos 0)) ≡ pos 0
+      by true = legs_cancel c (legs_of setting p c) (legs_balanced c fits) (length setting.agents) (fitting setting c fits).known
+      by false = sum_to_ℤ_const_zero (length setting.agents)
+
+  -- and is the same by a form that is alike, whoever is asked about
+  given_in_alike : (same : Meaning) → Alike setting.form same → (member : ℕ → Bool) (place : Option Contract) → place_fits setting place ≡ true →
+      given_in member setting p place ≡ given_in member (record setting { form = same }) p place
+  given_in_alike same alike member None fits = refl
+  given_in_alike same alike member (Some c) fits =
+      let parties = parties_of setting.agents c in
+      let facts = facts_of setting p c in
+      let legs = alike.legs c parties facts (setting.form.quantity c parties facts) (asked c fits) (keeps.quantity c parties facts (asked c fits)) in
+      ap (λ both. cond (covers c p.hour) (given_to member (legs_by_party c both)) (pos 0))
+      (legs ∙ ap (same.legs c parties facts) (alike.quantity c parties facts (asked c fits)))
+
+  module _ (fit : list_all (place_fits setting) setting.places ≡ true) where
+    -- the size of a contract line
+    pub contract_line_abs : (i : ℕ) → nat_abs (contract_line setting p i) ≤ length setting.places * most_leg
+    contract_line_abs i =
+        int_sum_by_abs (given_in (is_number i) setting p) most_leg setting.places
+        (All-passing (place_fits setting) (λ place. nat_abs (given_in (is_number i) setting p place) ≤ most_leg) setting.places fit (given_in_abs i))
+
+    -- the contract lines of an hour come to nothing over all agents
+    pub contract_lines_together : sum_to_ℤ (length setting.agents) (contract_line setting p) ≡ pos 0
+    contract_lines_together =
+        let together : Option Contract → ℤ = λ place. sum_to_ℤ (length setting.agents) (λ i. given_in (is_number i) setting p place) in
+        int_sum_over_by 0 (length setting.agents) setting.places (λ i. given_in (is_number i) setting p)
+        ∙ int_sum_by_zero together setting.places (All-passing (place_fits setting) (λ place. together place ≡ pos 0) setting.places fit given_in_together)
+
+    -- and are the same by a form that is alike, for each set of agents
+    pub contract_points_alike : (same : Meaning) → Alike setting.form same → (member : ℕ → Bool) →
+        contract_points_of member setting p ≡ contract_points_of member (record setting { form = same }) p
+    contract_points_alike same alike member =
+        int_sum_by_same (given_in member setting p) (given_in member (record setting { form = same }) p) setting.places
+        (All-passing (place_fits setting) (λ place. given_in member setting p place ≡ given_in member (record setting { form = same }) p place) setting.places fit
+        (given_in_alike same alike member))
