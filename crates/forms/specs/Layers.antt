@@ -11,7 +11,8 @@ Rule = Contract → Parties → ℕ → ℕ
 
 -- It leaves no more than there was.
 abbrev pub NeverRaises : Rule → Type 0
-NeverRaises rule = (terms : Contract) (parties : Parties) (quantity : ℕ) → rule terms parties quantity ≤ quantity
+NeverRaises rule =
+    (terms : Contract) (parties : Parties) (quantity : ℕ) → rule terms parties quantity ≤ quantity
 
 -- A form's quantity, by a rule; terms and legs pass through.
 abbrev pub layered : Rule → Meaning → Meaning

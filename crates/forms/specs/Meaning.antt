@@ -34,21 +34,23 @@ pub record Balanced (legs : Legs) : Type 0 where
 
 -- What every form keeps: a quantity is within its limit, and the legs of any quantity are balanced.
 pub record Keeps (form : Meaning) : Type 0 where
-  pub quantity : (terms : Contract) (parties : Parties) (facts : Facts) → MayAsk form terms parties facts →
-      form.quantity terms parties facts ≤ most_energy
-  pub legs : (terms : Contract) (parties : Parties) (facts : Facts) (quantity : ℕ) → MayAsk form terms parties facts →
-      quantity ≤ most_energy → Balanced (form.legs terms parties facts quantity)
+  pub quantity : (terms : Contract) (parties : Parties) (facts : Facts) →
+      MayAsk form terms parties facts → form.quantity terms parties facts ≤ most_energy
+  pub legs : (terms : Contract) (parties : Parties) (facts : Facts) (quantity : ℕ) →
+      MayAsk form terms parties facts → quantity ≤ most_energy → Balanced (form.legs terms parties facts quantity)
 
 -- Two forms are alike: they take the same terms between parties that agents may be, and give the same quantities and legs wherever
 -- they may be asked for them.
 pub record Alike (form other : Meaning) : Type 0 where
-  pub takes : (terms : Contract) (parties : Parties) → IsTrue (list_all party_fits (members_of parties)) →
-      form.takes terms parties ≡ other.takes terms parties
-  pub quantity : (terms : Contract) (parties : Parties) (facts : Facts) → MayAsk form terms parties facts →
-      form.quantity terms parties facts ≡ other.quantity terms parties facts
-  pub legs : (terms : Contract) (parties : Parties) (facts : Facts) (quantity : ℕ) → MayAsk form terms parties facts →
-      quantity ≤ most_energy → form.legs terms parties facts quantity ≡ other.legs terms parties facts quantity
+  pub takes : (terms : Contract) (parties : Parties) →
+      IsTrue (list_all party_fits (members_of parties)) → form.takes terms parties ≡ other.takes terms parties
+  pub quantity : (terms : Contract) (parties : Parties) (facts : Facts) →
+      MayAsk form terms parties facts → form.quantity terms parties facts ≡ other.quantity terms parties facts
+  pub legs : (terms : Contract) (parties : Parties) (facts : Facts) (quantity : ℕ) →
+      MayAsk form terms parties facts → quantity ≤ most_energy →
+      form.legs terms parties facts quantity ≡ other.legs terms parties facts quantity
 
 -- The legs of an hour: those of the hour's quantity.
 abbrev pub hour_legs : Meaning → Contract → Parties → Facts → Legs
-hour_legs form terms parties facts = form.legs terms parties facts (form.quantity terms parties facts)
+hour_legs form terms parties facts =
+    form.legs terms parties facts (form.quantity terms parties facts)

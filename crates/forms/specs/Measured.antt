@@ -17,12 +17,14 @@ prices_fit facts =
 abbrev pub withdrawn_fits : Parties → Facts → Bool
 withdrawn_fits parties facts =
     if has_role distributes parties.buyer.role
-    then (nat_le facts.withdrawn facts.distributors_withdrawn && nat_le facts.distributors_withdrawn most_energy)
+    then (nat_le facts.withdrawn facts.distributors_withdrawn
+    && nat_le facts.distributors_withdrawn most_energy)
     else nat_le (facts.withdrawn + facts.distributors_withdrawn) most_energy
 
 -- The facts can be those of an accepted posting: the test, and that it is true.
 unfoldable pub measured_facts : Parties → Facts → Bool
-measured_facts parties facts = prices_fit facts && (nat_le facts.injected most_energy && withdrawn_fits parties facts)
+measured_facts parties facts =
+    prices_fit facts && (nat_le facts.injected most_energy && withdrawn_fits parties facts)
 
 abbrev pub Measured : Parties → Facts → Type 0
 Measured parties facts = IsTrue (measured_facts parties facts)

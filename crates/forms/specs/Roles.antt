@@ -15,7 +15,8 @@ role_of code =
 -- a number is turned into the role that it names, or, where it names none, into an error that carries it
 abbrev pub NamesRole : (code : ℕ) → Result Role UnknownRole → Type 0
 NamesRole code answer =
-    MatchResult answer (λ role. role_of code ≡ Some role) (λ unknown. (role_of code ≡ None) × (unknown.0 ≡ code))
+    MatchResult answer (λ role. role_of code ≡ Some role)
+    (λ unknown. (role_of code ≡ None) × (unknown.0 ≡ code))
 
 -- what is printed of a number that names no role
 abbrev pub unknown_role_text : UnknownRole → List ℕ

@@ -27,7 +27,8 @@ numbers_apart (number ∷ rest) = list_all (λ other. not (number == other)) res
 abbrev pub parties_fit : Contract → Parties → Bool
 parties_fit terms parties =
     (list_all number_fits (party_numbers terms) && numbers_apart (party_numbers terms))
-    && (list_all party_fits (members_of parties) && roles_fit parties.seller.role parties.buyer.role)
+    && (list_all party_fits (members_of parties)
+    && roles_fit parties.seller.role parties.buyer.role)
 
 -- The hours: the first is not after the last, and both are within a month of so many.
 abbrev pub hours_fit : (hours : ℕ) → Contract → Bool
@@ -42,7 +43,8 @@ figures_fit terms =
 
 -- The terms, between these parties, can stand in some book: the test, and that it is true.
 unfoldable pub valid_terms : Contract → Parties → Bool
-valid_terms terms parties = parties_fit terms parties && (hours_fit most_hours terms && figures_fit terms)
+valid_terms terms parties =
+    parties_fit terms parties && (hours_fit most_hours terms && figures_fit terms)
 
 abbrev pub Valid : Contract → Parties → Type 0
 Valid terms parties = IsTrue (valid_terms terms parties)

@@ -17,7 +17,7 @@ pub struct ByKind<A, B> {
 impl<A: ContractForm, B: ContractForm> ContractForm for ByKind<A, B> {
     ghost meaning = { λ pair. by_kind pair.kind (A.meaning pair.first) (B.meaning pair.second) };
 
-    ghost keeps = { λ pair. by_kind_keeps pair.kind (A.ContractForm.keeps pair.first) (B.ContractForm.keeps pair.second) };
+    ghost keeps = { λ pair. by_kind_keeps pair.kind (A.keeps pair.first) (B.keeps pair.second) };
 
     fn takes(&self, terms: Contract, parties: Parties) -> bool {
         if terms.kind == self.kind {

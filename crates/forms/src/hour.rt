@@ -35,7 +35,8 @@ impl ContractHour {
 
     /// The hour of these terms and facts; none, if the terms are not valid or the facts not measured.
     pub fn checked(terms: Contract, parties: Parties, facts: Facts) -> Option<Self>
-        ensures tests { is_some result ≡ (valid_terms terms parties && measured_facts parties facts) }
+        ensures tests { is_some result ≡
+            (valid_terms terms parties && measured_facts parties facts) }
         ensures terms { IfSome result (λ hour. hour.terms ≡ terms) }
         ensures parties { IfSome result (λ hour. hour.parties ≡ parties) }
         ensures facts { IfSome result (λ hour. hour.facts ≡ facts) }

@@ -29,7 +29,7 @@ pub struct Layer<L, F> {
 impl<L: Lowering, F: ContractForm> ContractForm for Layer<L, F> {
     ghost meaning = { λ layer. layered (L.rule layer.lowering) (F.meaning layer.form) };
 
-    ghost keeps = { λ layer. layered_keeps (L.Lowering.never_raises layer.lowering) (F.ContractForm.keeps layer.form) };
+    ghost keeps = { λ layer. layered_keeps (L.never_raises layer.lowering) (F.keeps layer.form) };
 
     fn takes(&self, terms: Contract, parties: Parties) -> bool {
         self.form.takes(terms, parties)
