@@ -1,45 +1,40 @@
 -- Only what stands, asked of a book at its opening: all of it is done, and the same stands. Assumes nothing.
-use Rattle.std.proofs.Common.{◌≡◌, ℕ, zero, suc, ◌+◌, ◌-◌, ◌<◌, Bool, true, cond, not, ◌&&◌, ◌||◌, eqb, ltb, leb, List, [], ◌∷◌, ◌++◌, length, get_or, set, replicate, is_some, Some, None, Option, sym, refl, ap, ◌∙◌, subst, inl, inr, arith}
+use Rattle.std.proofs.Common.{◌≡◌, ℕ, zero, suc, ◌+◌, ◌-◌, ◌<◌, true, cond, not, ◌&&◌, ◌||◌, eqb, ltb, leb, List, [], ◌∷◌, ◌++◌, length, get_or, set, replicate, is_some, Some, None, Option, sym, refl, ap, ◌∙◌, subst, inl, inr, arith}
 use Rattle.std.specs.List.{list_all}
 use Rattle.std.specs.Option.{option_map}
 use Rattle.std.proofs.lemmas.List.{append_assoc, length_push, get_or_at, set_at}
+use Rattle.std.proofs.lemmas.List.Sorted.{IsPermutation-refl}
 use Rattle.std.proofs.lemmas.Bool.{le-leb, lt-ltb, le-ltb, eq-eqb, ne_eqb, cases_eq, cases_order, and_parts, and_from, cond-true, cond-false}
 use Rattle.forms.specs.declared.Contract.{Contract}
 use Rattle.forms.specs.Meaning.{Meaning}
-use Rattle.settlement.specs.declared.faults.BookFault.TheVariants.{MissingHour, NoPowerCarrier, ContractNumber, ContractTerms, CoveredHour}
-use Rattle.settlement.specs.ContractFaults.{contract_fits, place_fits}
+use Rattle.settlement.specs.declared.faults.BookFault.TheVariants.{MissingHour, NoPowerCarrier, ContractNumber, CoveredHour}
 use Rattle.settlement.specs.Faults.{met_if, first_met}
 use Rattle.settlement.specs.Power.{power_uncarried}
-use Rattle.settlement.specs.Sums.{first_failing}
-use Rattle.settlement.proofs.Sums.{sum_to_same}
-use Rattle.standing.specs.Law.{is_done}
-use Rattle.standing.specs.Requests.{Opening, hours_in, Posting, Request, posting, unread, withdrawal, entering, cancelling, closing, statement}
-use Rattle.standing.specs.Standing.{State, open', closed, Standing, nothing_stands, standing_with, stands, withdrawn_in, withdrawn_of, closing_fault}
-use Rattle.standing.specs.Standing.{fault_met, can_ask, changed, next, standing_after, after, Level, entries_of, posting_at, postings_of, closing_of, only_standing}
-use Rattle.standing.specs.Worked.{skipped, reply_to, done, reply, replies_from}
+use Rattle.tally.specs.Failing.{first_failing}
+use Rattle.tally.proofs.Failing.{first_failing_same, first_failing_none}
+use Rattle.forms.specs.Limits.{most_contracts}
+use Rattle.settlement.specs.Posting.{Posting}
+use Rattle.settlement.specs.ContractFaults.{contract_fault, contract_fits, place_fits}
+use Rattle.standing.specs.Requests.{Opening, hours_in, Request, posting, entering, closing, statement}
+use Rattle.settlement.specs.declared.states.State.{State}
+use Rattle.settlement.specs.declared.states.State.TheVariants.{Open, Closed}
+use Rattle.standing.specs.Standing.{Standing, nothing_stands, standing_with, stands, setting_in}
+use Rattle.standing.specs.Faults.{withdrawn_of, closing_fault, fault_met}
+use Rattle.standing.specs.Turns.{was_done, can_ask, manner, changed, left_by, next, standing_after, after}
+use Rattle.standing.specs.Level.{Level, standing_contracts}
+use Rattle.standing.specs.Only.{entries_of, posting_at, postings_of, closing_of, only_standing}
+use Rattle.standing.specs.Replies.{done, told_as, reply, replies_from, is_done}
+use Rattle.standing.proofs.Turns.{manner_asked}
+use Rattle.standing.proofs.Postings.{withdrawn_same}
+use Rattle.settlement.proofs.FaultTables.{none_is}
 use Rattle.standing.proofs.Sound.{Sound}
-
--- ---- the first place that fails
-
--- tests that agree at the places that are gone through
-pub first_failing_same : (f g : ℕ → Bool) (start n : ℕ) → ((k : ℕ) → k < n → f (start + k) ≡ g (start + k)) → first_failing f start n ≡ first_failing g start n
-first_failing_same f g start zero same = refl
-first_failing_same f g start (suc n) same =
-    let here : f start ≡ g start = sym (ap f (omega arith)) ∙ same 0 (omega arith) ∙ ap g (omega arith) in
-    let later : (k : ℕ) → k < n → f (start + 1 + k) ≡ g (start + 1 + k) = λ k below. sym (ap f (omega arith)) ∙ same (suc k) (omega arith) ∙ ap g (omega arith) in
-    λ t. cond (here t) (first_failing_same f g (start + 1) n later t) (Some start)
-
--- a test that nothing fails
-pub first_failing_none : (start n : ℕ) → first_failing (λ k. true) start n ≡ None
-first_failing_none start zero = refl
-first_failing_none start (suc n) = first_failing_none (start + 1) n
 
 -- a closing meets the same fault where the same stands in the hours of the month
 pub closing_same : (o : Opening) (s t : Standing) → ((hour : ℕ) → hour < hours_in o → s.posted hour ≡ t.posted hour) → closing_fault o s ≡ closing_fault o t
 closing_same o s t same =
     let missing : first_failing (stands s) 0 (hours_in o) ≡ first_failing (stands t) 0 (hours_in o) =
     first_failing_same (stands s) (stands t) 0 (hours_in o) (λ hour within. ap is_some (same (0 + hour) (omega arith))) in
-    let withdrawn : withdrawn_of o s ≡ withdrawn_of o t = λ t i. sum_to_same (hours_in o) _ _ (λ hour within. ap (withdrawn_in i) (same hour within)) t in
+    let withdrawn : withdrawn_of o s ≡ withdrawn_of o t = λ x i. withdrawn_same o s t same i x in
     λ t. first_met (option_map (λ hour. MissingHour hour) (missing t) ∷ met_if (power_uncarried o.agents (withdrawn t)) NoPowerCarrier ∷ [])
 
 -- ---- requests that are all done
@@ -52,22 +47,17 @@ record Leads (form : Meaning) (o : Opening) (s : Standing) (requests : List Requ
 module _ (form : Meaning) (o : Opening) where
   -- what is told of a request that is done says so
   done_is : (s : Standing) (r : Request) → is_done (done form o s r) ≡ true
-  done_is s (posting hour p) = refl
-  done_is s (unread fault) = refl
-  done_is s (withdrawal hour) = refl
-  done_is s (entering number c) = refl
-  done_is s (cancelling number) = refl
-  done_is s closing = refl
   done_is s (statement agent) = refl
+  done_is s _ = refl
 
   -- a request that can be asked and meets no fault, and then the others
   leads_more : (s : Standing) (r : Request) (rs : List Request) (left : Standing) → can_ask s.state r ≡ true → fault_met form o s r ≡ None →
       Leads form o (changed r s) rs left → Leads form o s (r ∷ rs) left
   leads_more s r rs left asked none leads =
-      let here : is_done (reply form o s r) ≡ true = (λ t. is_done (cond (asked t) (reply_to form o s r (none t)) skipped)) ∙ done_is s r in
-      let then : next form o s r ≡ changed r s = λ t. cond (asked t && not (is_some (none t))) (changed r s) s in
+      let how : manner form o s r ≡ was_done = manner_asked form o s r asked None none in
+      let then : next form o s r ≡ changed r s = ap (λ m. left_by m r s) how in
       record {
-        all = and_from _ _ here (ap (λ u. list_all is_done (replies_from form o u rs)) then ∙ leads.all);
+        all = and_from _ _ (ap (λ m. is_done (told_as form o s r m)) how ∙ done_is s r) (ap (λ u. list_all is_done (replies_from form o u rs)) then ∙ leads.all);
         end = ap (λ u. standing_after form o u rs) then ∙ leads.end;
       }
 
@@ -83,15 +73,16 @@ module _ (form : Meaning) (o : Opening) where
 
   -- an open month with contracts alone
   abbrev entered : List (Option Contract) → Standing
-  entered places = record { posted = λ hour. None; places = places; state = open' }
+  entered places = record { posted = λ hour. None; places = places; state = Open }
 
   -- a contract that may stand can be entered there under a number that is free
-  entering_fine : (front rest : List (Option Contract)) (n : ℕ) (c : Contract) → length front ≡ n → n < 64 → contract_fits form (hours_in o) o.agents c ≡ true →
+  entering_fine : (front rest : List (Option Contract)) (n : ℕ) (c : Contract) → length front ≡ n → n < most_contracts → contract_fits (setting_in form o nothing_stands) c ≡ true →
       fault_met form o (entered (front ++ (None ∷ rest))) (entering (n + 1) c) ≡ None
   entering_fine front rest n c long few fits =
-      let known : (leb 1 (n + 1) && leb (n + 1) 64) ≡ true = and_from _ _ (le-leb 1 (n + 1) (omega arith)) (le-leb (n + 1) 64 (omega arith)) in
+      let known : (leb 1 (n + 1) && leb (n + 1) most_contracts) ≡ true = and_from _ _ (le-leb 1 (n + 1) (omega arith)) (le-leb (n + 1) most_contracts (omega arith)) in
       let free : get_or (front ++ (None ∷ rest)) (n + 1 - 1) None ≡ None = get_or_at front None rest None (n + 1 - 1) (omega arith) in
-      λ t. first_met (met_if (not (known t) || is_some (free t)) ContractNumber ∷ met_if (not (fits t)) ContractTerms
+      let fine : contract_fault (setting_in form o nothing_stands) c ≡ None = none_is _ fits in
+      λ t. first_met (met_if (not (known t) || is_some (free t)) ContractNumber ∷ fine t
       ∷ option_map (λ hour. CoveredHour hour) (first_failing_none c.first (c.last + 1 - c.first) t) ∷ [])
 
   -- one place more in front
@@ -103,7 +94,7 @@ module _ (form : Meaning) (o : Opening) where
       (subst (λ places. Leads form o (entered ((front ++ (place ∷ [])) ++ blank)) requests (entered places)) (append_assoc front (place ∷ []) rest) leads)
 
   -- so the contracts of a list of places come to stand in it again, after those in front
-  entries_lead : (front rest : List (Option Contract)) (n : ℕ) → length front ≡ n → n + length rest ≡ 64 → list_all (place_fits form (hours_in o) o.agents) rest ≡ true →
+  entries_lead : (front rest : List (Option Contract)) (n : ℕ) → length front ≡ n → n + length rest ≡ most_contracts → list_all (place_fits (setting_in form o nothing_stands)) rest ≡ true →
       Leads form o (entered (front ++ replicate (length rest) None)) (entries_of (n + 1) rest) (entered (front ++ rest))
   entries_lead front [] n long few fit = record { all = refl; end = refl }
   entries_lead front (None ∷ rest) n long few fit =
@@ -111,7 +102,7 @@ module _ (form : Meaning) (o : Opening) where
       (entries_lead (front ++ (None ∷ [])) rest (n + 1) (length_push front None ∙ ap (λ k. k + 1) long) (omega arith) fit)
   entries_lead front (Some c ∷ rest) n long few fit =
       let blank : List (Option Contract) = replicate (length rest) None in
-      let parts = and_parts (contract_fits form (hours_in o) o.agents c) (list_all (place_fits form (hours_in o) o.agents) rest) fit in
+      let parts = and_parts (contract_fits (setting_in form o nothing_stands) c) (list_all (place_fits (setting_in form o nothing_stands)) rest) fit in
       let there : front ++ (Some c ∷ blank) ≡ set (front ++ (None ∷ blank)) (n + 1 - 1) (Some c) = sym (set_at front None blank (Some c) (n + 1 - 1) (omega arith)) in
       leads_more (entered (front ++ (None ∷ blank))) (entering (n + 1) c) (entries_of (n + 1 + 1) rest) (entered (front ++ (Some c ∷ rest))) refl
       (entering_fine front blank n c long (omega arith) parts.0)
@@ -124,11 +115,11 @@ module _ (form : Meaning) (o : Opening) where
   module _ (s : Standing) (sound : Sound form o s) where
     -- an open month with the same contracts, and the same postings in so many hours
     abbrev up_to : ℕ → Standing
-    up_to n = record { posted = λ h. cond (ltb h n) (s.posted h) None; places = s.places; state = open' }
+    up_to n = record { posted = λ h. cond (ltb h n) (s.posted h) None; places = s.places; state = Open }
 
     -- one hour more
     with_more : (hour : ℕ) → standing_with hour (s.posted hour) (up_to hour) ≡ up_to (hour + 1)
-    with_more hour = λ t. record { posted = λ h. here h t; places = s.places; state = open' }
+    with_more hour = λ t. record { posted = λ h. here h t; places = s.places; state = Open }
       where
         here : (h : ℕ) → cond (eqb h hour) (s.posted hour) (cond (ltb h hour) (s.posted h) None) ≡ cond (ltb h (hour + 1)) (s.posted h) None
         here h = elim (cases_order h hour) [
@@ -143,7 +134,7 @@ module _ (form : Meaning) (o : Opening) where
 
     -- the next hour is free
     with_none : (hour : ℕ) → up_to hour ≡ standing_with hour None (up_to hour)
-    with_none hour = λ t. record { posted = λ h. here h t; places = s.places; state = open' }
+    with_none hour = λ t. record { posted = λ h. here h t; places = s.places; state = Open }
       where
         here : (h : ℕ) → cond (ltb h hour) (s.posted h) None ≡ cond (eqb h hour) None (cond (ltb h hour) (s.posted h) None)
         here h = elim (cases_eq h hour) [
@@ -152,17 +143,18 @@ module _ (form : Meaning) (o : Opening) where
         ]
 
     -- what stands at an hour comes to stand there again
-    posting_lead : (hour : ℕ) → hour < hours_in o → (q : Option Posting) → s.posted hour ≡ q → Leads form o (up_to hour) (posting_at hour q) (up_to (hour + 1))
+    posting_lead : (hour : ℕ) → hour < hours_in o → (q : Option Posting) → s.posted hour ≡ q → Leads form o (up_to hour) (posting_at q) (up_to (hour + 1))
     posting_lead hour within None is = record { all = refl; end = with_none hour ∙ ap (λ q. standing_with hour q (up_to hour)) (sym is) ∙ with_more hour }
     posting_lead hour within (Some p) is =
-        leads_more (up_to hour) (posting hour p) [] (up_to (hour + 1)) refl (sound.postings hour p within is)
-        (record { all = refl; end = ap (λ q. standing_with hour q (up_to hour)) (sym is) ∙ with_more hour })
+        let may = sound.postings hour p within is in
+        leads_more (up_to hour) (posting p) [] (up_to (hour + 1)) refl may.faultless
+        (record { all = refl; end = (λ t. standing_with (may.at t) (sym is t) (up_to hour)) ∙ with_more hour })
 
     -- and so in all hours
     postings_lead : (n hour : ℕ) → hour + n ≡ hours_in o → Leads form o (up_to hour) (postings_of s.posted hour n) (up_to (hours_in o))
     postings_lead zero hour all = record { all = refl; end = ap up_to (omega arith) }
     postings_lead (suc n) hour all =
-        leads_append (up_to hour) (posting_at hour (s.posted hour)) (postings_of s.posted (hour + 1) n) (up_to (hour + 1)) (up_to (hours_in o))
+        leads_append (up_to hour) (posting_at (s.posted hour)) (postings_of s.posted (hour + 1) n) (up_to (hour + 1)) (up_to (hours_in o))
         (posting_lead hour (omega arith) (s.posted hour) refl) (postings_lead n (hour + 1) (omega arith))
 
     -- ---- the closing, and all of it
@@ -177,16 +169,16 @@ module _ (form : Meaning) (o : Opening) where
 
     -- a month that was closed can be closed again
     closing_lead : (state : State) → s.state ≡ state → Leads form o (up_to (hours_in o)) (closing_of state) (closed_as state)
-    closing_lead open' is = record { all = refl; end = refl }
-    closing_lead closed is =
-        leads_more (up_to (hours_in o)) closing [] (closed_as closed) refl (sym (closing_same o s (up_to (hours_in o)) hours_same) ∙ sound.closable is)
+    closing_lead Open is = record { all = refl; end = refl }
+    closing_lead Closed is =
+        leads_more (up_to (hours_in o)) closing [] (closed_as Closed) refl (sym (closing_same o s (up_to (hours_in o)) hours_same) ∙ sound.closable is)
         (record { all = refl; end = refl })
 
     -- the contracts, the postings and the closing, one after the other
     again_leads : Leads form o nothing_stands (only_standing o s) (closed_as s.state)
     again_leads =
         let none : entered s.places ≡ up_to 0 =
-        λ t. record { posted = λ h. sym (cond-false _ (s.posted h) None (le-ltb h 0 (omega arith))) t; places = s.places; state = open' } in
+        λ t. record { posted = λ h. sym (cond-false _ (s.posted h) None (le-ltb h 0 (omega arith))) t; places = s.places; state = Open } in
         let blank : entered (replicate (length s.places) None) ≡ nothing_stands = ap (λ n. entered (replicate n None)) sound.long in
         let contracts : Leads form o (entered (replicate (length s.places) None)) (entries_of 1 s.places) (entered s.places) =
         entries_lead [] s.places 0 refl (omega (arith, sound.long)) sound.contracts in
@@ -201,4 +193,4 @@ module _ (form : Meaning) (o : Opening) where
 
     -- and the same stands
     pub again_level : Level o s (after form o (only_standing o s))
-    again_level = subst (λ t. Level o s t) (sym again_leads.end) (record { hours = hours_same; contracts = λ c. refl; state = refl })
+    again_level = subst (λ t. Level o s t) (sym again_leads.end) (record { hours = hours_same; contracts = IsPermutation-refl (standing_contracts s.places); state = refl })

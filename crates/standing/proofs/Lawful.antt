@@ -2,11 +2,15 @@
 use Rattle.std.proofs.Common.{◌≡◌, List, map, ℤ, neg_ℤ, sym, refl, ap, ◌∙◌}
 use Rattle.std.specs.List.{range_with_len, list_all}
 use Rattle.forms.specs.Meaning.{Meaning, Keeps, Alike}
-use Rattle.settlement.proofs.Sums.{map_counting_same}
-use Rattle.standing.specs.Law.{Book, Ran, Settled, unspoilt, is_done}
+use Rattle.tally.proofs.Numbers.{map_counting_same}
+use Rattle.standing.specs.Law.{Book, Ran, Settled, unspoilt}
 use Rattle.standing.specs.Requests.{Opening, count_in, Request, without_contracts, told_without}
-use Rattle.standing.specs.Standing.{Standing, nothing_stands, after, only_standing}
-use Rattle.standing.specs.Worked.{worked, residue_after, manner_of}
+use Rattle.standing.specs.Standing.{Standing, nothing_stands}
+use Rattle.standing.specs.Turns.{after}
+use Rattle.standing.specs.Only.{only_standing}
+use Rattle.standing.specs.Worked.{worked, residue_after}
+use Rattle.standing.specs.Replies.{manner_of, is_done}
+use Rattle.standing.proofs.Alike.{replies_alike, after_alike, ran_alike}
 use Rattle.standing.proofs.Again.{again_done, again_level}
 use Rattle.standing.proofs.Apart.{after_apart, alike}
 use Rattle.standing.proofs.Balance.{balanced}
@@ -37,7 +41,7 @@ module _ (form : Meaning) (keeps : Keeps form) (o : Opening) (opened : Opened o)
   -- a form is alike to itself
   alike_itself : Alike form form
   alike_itself = record {
-    takes = λ terms parties. refl;
+    takes = λ terms parties fit. refl;
     quantity = λ terms parties facts settles. refl;
     legs = λ terms parties facts quantity settles within. refl;
   }
@@ -54,15 +58,22 @@ module _ (form : Meaning) (keeps : Keeps form) (o : Opening) (opened : Opened o)
     run = run;
     run_without = run_without;
     run_again = run_again;
-    alike = ap (λ told. map manner_of (told_without requests told)) run.answers ∙ alike form o requests ∙ ap (map manner_of) (sym run_without.answers);
-    sound = ap (list_all unspoilt) run.answers ∙ unspoilt_told form o nothing_stands requests;
-    sound_without = ap (list_all unspoilt) run_without.answers ∙ unspoilt_told form o nothing_stands (without_contracts requests);
-    left = left;
-    balanced = run.together ∙ balanced form keeps o opened whole whole_sound ∙ ap neg_ℤ (sym left);
-    balanced_without = run_without.together ∙ balanced form keeps o opened without (sound_after form o (without_contracts requests)) ∙ ap neg_ℤ (residue_without ∙ sym left);
-    strangers = strangers form o requests;
-    order = λ same alike other level i agent. order form keeps o opened whole whole_sound same alike (after same o other) level i;
-    repeated = ap (list_all is_done) run_again.answers ∙ again_done form o whole whole_sound;
-    level = again_level form o whole whole_sound;
-    same = run_again.stands ∙ statements_again ∙ sym run.stands;
+    answers = record {
+      alike = ap (λ told. map manner_of (told_without requests told)) run.answers ∙ alike form o requests ∙ ap (map manner_of) (sym run_without.answers);
+    };
+    stores = record { sound = ap (list_all unspoilt) run.answers ∙ unspoilt_told form o nothing_stands requests };
+    stores_without = record { sound = ap (list_all unspoilt) run_without.answers ∙ unspoilt_told form o nothing_stands (without_contracts requests) };
+    balances = record {
+      left = left;
+      balanced = run.together ∙ balanced form keeps o opened whole whole_sound ∙ ap neg_ℤ (sym left);
+      balanced_without = run_without.together ∙ balanced form keeps o opened without (sound_after form o (without_contracts requests)) ∙ ap neg_ℤ (residue_without ∙ sym left);
+    };
+    strangers = record { same = strangers form o requests };
+    order = record { same = λ same alike other level i agent. order form keeps o opened whole whole_sound same alike (after same o other) level i };
+    forms = record { answers = replies_alike form keeps o opened; stands = after_alike form keeps o opened; run = ran_alike form keeps o opened };
+    again = record {
+      accepted = ap (list_all is_done) run_again.answers ∙ again_done form o whole whole_sound;
+      level = again_level form o whole whole_sound;
+      same = run_again.stands ∙ statements_again ∙ sym run.stands;
+    };
   }

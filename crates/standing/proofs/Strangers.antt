@@ -1,64 +1,71 @@
--- An agent that is party to no standing contract has the same statement without the contracts. Assumes nothing.
-use Rattle.std.proofs.Common.{◌≡◌, ℕ, ◌+◌, ◌<◌, Bool, true, false, cond, eqb, List, [], ◌∷◌, pos, ◌+ℤ◌, Some, None, Option, sym, refl, ap, ◌∙◌, arith}
-use Rattle.std.proofs.lemmas.Bool.{or_parts}
+-- An agent that is party to none of the standing contracts has the same statement without the contracts. Assumes nothing.
+use Rattle.std.proofs.Common.{◌≡◌, ℕ, ◌<◌, Bool, true, false, cond, not, List, [], ◌∷◌, ℤ, pos, ◌+ℤ◌, Some, None, Option, sym, refl, ap, ◌∙◌}
+use Rattle.std.specs.List.{zip, list_any}
+use Rattle.std.proofs.lemmas.Bool.{or_parts, not-true}
 use Rattle.forms.specs.declared.Contract.{Contract}
 use Rattle.forms.specs.Meaning.{Meaning}
 use Rattle.settlement.specs.ContractFaults.{covers}
-use Rattle.settlement.specs.Hour.{line_at, caused_sum, carried_by, figures_with}
-use Rattle.settlement.specs.Pool.{legs_of, leg_in}
-use Rattle.settlement.specs.Sums.{sum_of}
-use Rattle.settlement.proofs.Sums.{sum_to_ℤ_same}
-use Rattle.standing.specs.Requests.{Opening, count_in, hours_in, Posting, Request, without_contracts}
-use Rattle.standing.specs.Standing.{Standing, after, is_party, party_to}
-use Rattle.standing.specs.Worked.{pool_in, figures_from, figures_at, market_of, contract_of, overcost_of, worked}
+use Rattle.settlement.specs.Posting.{line_at, Posting}
+use Rattle.settlement.specs.Setting.{Setting}
+use Rattle.forms.specs.Parties.{party_numbers, points_of}
+use Rattle.settlement.specs.Legs.{is_number, given_to, given_in, legs_of, contract_line}
+use Rattle.settlement.specs.Hour.{caused_sum, carried_by, figures_with}
+use Rattle.tally.proofs.Sums.{total_over_same, All-passing}
+use Rattle.tally.specs.LinesLaws.{lines_lawful}
+use Rattle.tally.proofs.Numbers.{int_sum_by_zero}
+use Rattle.standing.specs.Requests.{Opening, count_in, hours_in, Request, without_contracts}
+use Rattle.standing.specs.Standing.{Standing, setting_in}
+use Rattle.standing.specs.Turns.{after}
+use Rattle.standing.specs.Parties.{is_party, is_stranger}
+use Rattle.standing.specs.Worked.{figures_from, figures_at, lines_between, worked}
 use Rattle.standing.proofs.Apart.{apart, after_apart}
+use Rattle.standing.proofs.Postings.{worked_same}
 
 -- either way it is the same
 either : {X : Type 0} (test : Bool) (x : X) → cond test x x ≡ x
 either true x = refl
 either false x = refl
 
--- a count of none: this one does not count, nor do the others
-none_counted : (test : Bool) (others : ℕ) → cond test 1 0 + others ≡ 0 → (test ≡ false) × (others ≡ 0)
-none_counted true others none = absurd (omega arith)
-none_counted false others none = (refl, omega arith)
+-- of legs by party, those that are none of the parties are given nothing
+given_none : (member : ℕ → Bool) (numbers : List ℕ) (points : List ℤ) → list_any member numbers ≡ false → given_to member (zip numbers points) ≡ pos 0
+given_none member [] points apart = refl
+given_none member (number ∷ numbers) [] apart = refl
+given_none member (number ∷ numbers) (leg ∷ points) apart =
+    let parts = or_parts (member number) (list_any member numbers) apart in
+    λ t. cond (parts.0 t) leg (pos 0) +ℤ given_none member numbers points parts.1 t
 
-module _ (form : Meaning) (o : Opening) (i : ℕ) where
+module _ (setting : Setting) (p : Posting) (i : ℕ) where
   -- a contract puts nothing on the contract line of an agent that is no party to it
-  leg_none : (hour : ℕ) (p : Posting) (place : Option Contract) → is_party i place ≡ false → leg_in form o.weekday o.agents hour p.price p.lines i place ≡ pos 0
-  leg_none hour p None stranger = refl
-  leg_none hour p (Some c) stranger =
-      let parts = or_parts (eqb c.seller (i + 1)) (eqb c.buyer (i + 1)) stranger in
-      let legs = legs_of form o.weekday o.agents hour p.price p.lines c in
-      (λ t. cond (covers c hour) (cond (parts.0 t) legs.seller (pos 0) +ℤ cond (parts.1 t) legs.buyer (pos 0)) (pos 0)) ∙ either (covers c hour) (pos 0)
+  leg_none : (place : Option Contract) → is_party i place ≡ false → given_in (is_number i) setting p place ≡ pos 0
+  leg_none None stranger = refl
+  leg_none (Some c) stranger =
+      ap (λ z. cond (covers c p.hour) z (pos 0)) (given_none (is_number i) (party_numbers c) (points_of (legs_of setting p c)) stranger)
+      ∙ either (covers c p.hour) (pos 0)
 
   -- nor do all contracts together
-  legs_none : (hour : ℕ) (p : Posting) (places : List (Option Contract)) → party_to i places ≡ 0 →
-      sum_of (leg_in form o.weekday o.agents hour p.price p.lines i) places ≡ pos 0
-  legs_none hour p [] none = refl
-  legs_none hour p (place ∷ places) none =
-      let parts = none_counted (is_party i place) (party_to i places) none in
-      λ t. leg_none hour p place parts.0 t +ℤ legs_none hour p places parts.1 t
+  pub contract_line_none : is_stranger i setting.places ≡ true → contract_line setting p i ≡ pos 0
+  contract_line_none stranger =
+      int_sum_by_zero (given_in (is_number i) setting p) setting.places
+      (All-passing (λ place. not (is_party i place)) _ setting.places stranger (λ place apart. leg_none place (not-true (is_party i place) apart)))
 
-  module _ (s : Standing) (stranger : party_to i s.places ≡ 0) where
-    -- so its figures of an hour are the same without them
-    figures_apart : (hour : ℕ) (p : Option Posting) → figures_from (pool_in form o (apart s)) i hour p ≡ figures_from (pool_in form o s) i hour p
-    figures_apart hour None = refl
-    figures_apart hour (Some p) =
-        ap (λ contract. figures_with p.price (line_at p.lines i) contract (caused_sum p.price p.lines i) (carried_by o.agents p.price p.lines i))
-        (legs_none hour p (apart s).places refl ∙ sym (legs_none hour p s.places stranger))
+module _ (form : Meaning) (o : Opening) (i : ℕ) (s : Standing) (stranger : is_stranger i s.places ≡ true) where
+  -- so its figures of an hour are the same without them
+  figures_apart : (p : Option Posting) → figures_from (setting_in form o (apart s)) i p ≡ figures_from (setting_in form o s) i p
+  figures_apart None = refl
+  figures_apart (Some p) =
+      ap (λ contract. figures_with p.price (line_at p.lines i) contract (caused_sum p i) (carried_by o.agents p i))
+      (contract_line_none (setting_in form o (apart s)) p i refl ∙ sym (contract_line_none (setting_in form o s) p i stranger))
 
-    -- and its statement
-    worked_apart : worked form o (apart s) i ≡ worked form o s i
-    worked_apart =
-        let figures : (hour : ℕ) → figures_at form o (apart s) i hour ≡ figures_at form o s i hour = λ hour. figures_apart hour (s.posted hour) in
-        let market : market_of form o (apart s) i ≡ market_of form o s i = sum_to_ℤ_same (hours_in o) _ _ (λ hour within. ap (λ f. f.market) (figures hour)) in
-        let contract : contract_of form o (apart s) i ≡ contract_of form o s i = sum_to_ℤ_same (hours_in o) _ _ (λ hour within. ap (λ f. f.contract) (figures hour)) in
-        let overcost : overcost_of form o (apart s) i ≡ overcost_of form o s i = sum_to_ℤ_same (hours_in o) _ _ (λ hour within. ap (λ f. f.overcost) (figures hour)) in
-        cc
+  -- and its statement
+  worked_apart : worked form o (apart s) i ≡ worked form o s i
+  worked_apart =
+      let lines : lines_between form o (apart s) 0 (hours_in o) i ≡ lines_between form o s 0 (hours_in o) i =
+      total_over_same lines_lawful 0 (hours_in o) (λ hour. (figures_at form o (apart s) i hour).lines) (λ hour. (figures_at form o s i hour).lines)
+      (λ hour low within. ap (λ f. f.lines) (figures_apart (s.posted hour))) in
+      worked_same form form o (apart s) s (λ hour within. refl) i lines refl
 
 -- whatever was asked
-pub strangers : (form : Meaning) (o : Opening) (requests : List Request) (i : ℕ) → i < count_in o → party_to i (after form o requests).places ≡ 0 →
+pub strangers : (form : Meaning) (o : Opening) (requests : List Request) (i : ℕ) → i < count_in o → is_stranger i (after form o requests).places ≡ true →
     worked form o (after form o (without_contracts requests)) i ≡ worked form o (after form o requests) i
 strangers form o requests i agent stranger =
     ap (λ s. worked form o s i) (after_apart form o requests) ∙ worked_apart form o i (after form o requests) stranger

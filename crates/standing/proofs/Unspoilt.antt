@@ -11,15 +11,17 @@ use Rattle.settlement.specs.declared.faults.BookFault.{BookFault}
 use Rattle.settlement.specs.declared.faults.BookFault.TheVariants.{Posting, OutsideBook, NoCarrier, FreeHour, MissingHour, NoPowerCarrier, ContractNumber, ContractTerms, CoveredHour}
 use Rattle.settlement.specs.declared.faults.LineFault.{LineFault}
 use Rattle.settlement.specs.declared.faults.LineFault.TheVariants.{Packet, HourOutside, OutsideLimit, BreaksRule, TooMuchTogether}
-use Rattle.settlement.specs.ContractFaults.{taken_fault, vacant_fault, terms_fault, covered_fault, covered_in, place_at}
+use Rattle.settlement.specs.ContractFaults.{taken_fault, vacant_fault, covered_fault, covered_in, place_at, contract_faults, contract_fault}
 use Rattle.settlement.specs.Faults.{number_of, met_if, first_met, of_posting}
-use Rattle.settlement.specs.PostingFaults.{hour_fault, line_fault, uncarried}
+use Rattle.settlement.specs.PostingFaults.{hour_fault, posting_faults}
 use Rattle.settlement.specs.Power.{power_uncarried}
-use Rattle.settlement.specs.Sums.{first_failing}
+use Rattle.tally.specs.Failing.{first_failing}
 use Rattle.standing.specs.Law.{unspoilt}
 use Rattle.standing.specs.Requests.{Opening, count_in, hours_in, Request, posting, unread, withdrawal, entering, cancelling, closing, statement}
-use Rattle.standing.specs.Standing.{Standing, stands, withdrawn_of, fault_met, can_ask, next}
-use Rattle.standing.specs.Worked.{skipped, reply_to, replies_from}
+use Rattle.standing.specs.Standing.{Standing, stands, setting_in}
+use Rattle.standing.specs.Faults.{withdrawn_of, fault_met}
+use Rattle.standing.specs.Turns.{was_skipped, can_ask, judged, next}
+use Rattle.standing.specs.Replies.{done, told_as, replies_from}
 
 -- a row of a table: no fault, or one of another number
 abbrev fine : Option BookFault → Bool
@@ -74,15 +76,14 @@ first_of (Some fault ∷ rows) all = all.0
 module _ (form : Meaning) (o : Opening) where
   -- no request meets a fault of a stored figure
   fault_fine : (s : Standing) (r : Request) → Fine (fault_met form o s r)
-  fault_fine s (posting hour p) =
-      first_of (of_posting (line_fault (count_in o) (hours_in o) o.agents hour p.price p.lines) ∷ met_if (uncarried o.agents p.price p.lines) NoCarrier ∷ [])
-      (own _, (met _ NoCarrier (record { is = refl }), tt))
+  fault_fine s (posting p) = first_of (posting_faults (setting_in form o s) p) (own _, (met _ NoCarrier (record { is = refl }), tt))
   fault_fine s (unread fault) = of_bytes fault
   fault_fine s (withdrawal hour) =
       first_of (of_posting (hour_fault (hours_in o) hour) ∷ met_if (not (stands s hour)) (FreeHour hour) ∷ []) (own _, (met _ (FreeHour hour) (record { is = refl }), tt))
   fault_fine s (entering number c) =
-      first_of (taken_fault s.places number ∷ terms_fault form (hours_in o) o.agents c ∷ covered_fault (stands s) c ∷ [])
-      (met _ ContractNumber (record { is = refl }), (met _ ContractTerms (record { is = refl }), (covered (stands s) c, tt)))
+      let terms = λ (test : Bool). met test ContractTerms (record { is = refl }) in
+      first_of (taken_fault s.places number ∷ contract_fault (setting_in form o s) c ∷ covered_fault (stands s) c ∷ [])
+      (met _ ContractNumber (record { is = refl }), (first_of (contract_faults (setting_in form o s) c) (terms _, (terms _, (terms _, tt))), (covered (stands s) c, tt)))
   fault_fine s (cancelling number) =
       let place = place_at s.places number in
       first_of (vacant_fault s.places number ∷ covered_in (stands s) place ∷ []) (met _ ContractNumber (record { is = refl }), (covered_in_lem (stands s) place, tt))
@@ -92,16 +93,15 @@ module _ (form : Meaning) (o : Opening) where
   fault_fine s (statement agent) = met (eqb agent 0 || ltb (count_in o) agent) OutsideBook (record { is = refl })
 
   -- so no answer tells one
-  told_fine : (s : Standing) (r : Request) (asked : Bool) (fault : Option BookFault) → fine fault ≡ true → unspoilt (cond asked (reply_to form o s r fault) skipped) ≡ true
+  done_fine : (s : Standing) (r : Request) → unspoilt (done form o s r) ≡ true
+  done_fine s (statement agent) = refl
+  done_fine s _ = refl
+
+  told_fine : (s : Standing) (r : Request) (asked : Bool) (fault : Option BookFault) → fine fault ≡ true →
+      unspoilt (told_as form o s r (cond asked (judged fault) was_skipped)) ≡ true
   told_fine s r false fault is = refl
+  told_fine s r true None is = done_fine s r
   told_fine s r true (Some fault) is = is
-  told_fine s (posting hour p) true None is = refl
-  told_fine s (unread fault) true None is = refl
-  told_fine s (withdrawal hour) true None is = refl
-  told_fine s (entering number c) true None is = refl
-  told_fine s (cancelling number) true None is = refl
-  told_fine s closing true None is = refl
-  told_fine s (statement agent) true None is = refl
 
   -- whatever is asked, and whatever stands
   pub unspoilt_told : (s : Standing) (requests : List Request) → list_all unspoilt (replies_from form o s requests) ≡ true

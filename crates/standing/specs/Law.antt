@@ -1,11 +1,16 @@
 -- The law over whole runs: a statement follows from what stands. Assumes nothing.
-use Rattle.std.specs.Prelude.{◌≡◌, ℕ, ◌<◌, Bool, true, false, not, List, map, ℤ, neg_ℤ, ◌==◌}
+use Rattle.std.specs.Prelude.{◌≡◌, ℕ, ◌<◌, Bool, true, not, List, map, ℤ, neg_ℤ, ◌==◌}
 use Rattle.std.specs.List.{range_with_len, list_all}
 use Rattle.forms.specs.Meaning.{Meaning, Alike}
 use Rattle.settlement.specs.Faults.{number_of}
 use Rattle.standing.specs.Requests.{Opening, count_in, Request, without_contracts, told_without}
-use Rattle.standing.specs.Standing.{nothing_stands, after, only_standing, Level, party_to}
-use Rattle.standing.specs.Worked.{Worked, worked, balances_after, residue_after, Reply, accepted, stated, refused, skipped, replies_from, manner_of}
+use Rattle.standing.specs.Standing.{nothing_stands}
+use Rattle.standing.specs.Turns.{after}
+use Rattle.standing.specs.Level.{Level}
+use Rattle.standing.specs.Parties.{is_stranger}
+use Rattle.standing.specs.Only.{only_standing}
+use Rattle.standing.specs.Worked.{Worked, worked, balances_after, residue_after}
+use Rattle.standing.specs.Replies.{Reply, refused, replies_from, manner_of, is_done}
 
 -- a book as it was run: what its host was told, every agent's statement at the end, and all balances together
 pub record Book : Type 0 where
@@ -20,44 +25,62 @@ pub record Ran (form : Meaning) (o : Opening) (requests : List Request) (book : 
   pub stands : book.statements ≡ map (worked form o (after form o requests)) (range_with_len 0 (count_in o))
   pub together : book.balances ≡ balances_after form o (after form o requests)
 
+-- requests that a book and one without contracts both heard were answered alike, refusals with the same number and place
+pub record AnsweredAlike (requests : List Request) (book without : Book) : Type 0 where
+  pub alike : map manner_of (told_without requests book.told) ≡ map manner_of without.told
+
 -- a request was not refused for a stored figure outside its limit
 abbrev pub unspoilt : Reply → Bool
-unspoilt accepted = true
-unspoilt (stated w) = true
 unspoilt (refused fault) = not (number_of fault == 2)
-unspoilt skipped = true
+unspoilt _ = true
 
--- a request was done
-abbrev pub is_done : Reply → Bool
-is_done accepted = true
-is_done (stated w) = true
-is_done (refused fault) = false
-is_done skipped = false
+-- what is stored was never found outside its limits
+pub record StoresSoundly (book : Book) : Type 0 where
+  pub sound : list_all unspoilt book.told ≡ true
+
+-- the residue is worked from the postings of the standing hours alone, and all balances together are minus the residue, with contracts and without
+pub record Balances (form : Meaning) (o : Opening) (requests : List Request) (book without : Book) (residue : ℤ) : Type 0 where
+  pub left : residue ≡ residue_after o (after form o requests)
+  pub balanced : book.balances ≡ neg_ℤ residue
+  pub balanced_without : without.balances ≡ neg_ℤ residue
+
+-- an agent that is party to none of the standing contracts has the same statement with and without the contracts
+pub record Strangers (form : Meaning) (o : Opening) (requests : List Request) : Type 0 where
+  pub same : (i : ℕ) → i < count_in o → is_stranger i (after form o requests).places ≡ true →
+      worked form o (after form o (without_contracts requests)) i ≡ worked form o (after form o requests) i
+
+-- how it came to stand does not matter, nor which form of the same meaning was asked: what leaves the same standing gives every agent the same
+-- statement
+pub record SameStanding (form : Meaning) (o : Opening) (requests : List Request) : Type 0 where
+  pub same : (other_form : Meaning) → Alike form other_form → (others : List Request) → Level o (after form o requests) (after other_form o others) →
+      (i : ℕ) → i < count_in o → worked other_form o (after other_form o others) i ≡ worked form o (after form o requests) i
+
+-- two forms of the same meaning give every list of requests the same answers, whole, and leave the same standing; so a book that was run by the
+-- one was run as the other says, and all that is said here of books of one form is so of books of two
+pub record SameForms (form : Meaning) (o : Opening) : Type 0 where
+  pub answers : (other_form : Meaning) → Alike form other_form → (requests : List Request) →
+      replies_from other_form o nothing_stands requests ≡ replies_from form o nothing_stands requests
+  pub stands : (other_form : Meaning) → Alike form other_form → (requests : List Request) → after other_form o requests ≡ after form o requests
+  pub run : (other_form : Meaning) → Alike form other_form → (requests : List Request) → (book : Book) → Ran other_form o requests book → Ran form o requests book
+
+-- a book that heard only what stands in another at the end accepted all of it, and the same stands in it, so that every agent has the same statement
+pub record Repeats (form : Meaning) (o : Opening) (requests : List Request) (book again : Book) : Type 0 where
+  pub accepted : list_all is_done again.told ≡ true
+  pub level : Level o (after form o requests) (after form o (only_standing o (after form o requests)))
+  pub same : again.statements ≡ book.statements
 
 -- What is so of every form that keeps its promises, every accepted opening and every list of requests: of the book that heard the list, of a
 -- second that heard it without its requests about contracts, of a third that heard only what stands in the first at the end, and of the
 -- residue of the standing hours.
 pub record Settled (form : Meaning) (o : Opening) (requests : List Request) (first second third : Book) (residue : ℤ) : Type 0 where
-  -- all three were run as the rules say
   pub run : Ran form o requests first
   pub run_without : Ran form o (without_contracts requests) second
   pub run_again : Ran form o (only_standing o (after form o requests)) third
-  -- requests that the first two both heard were answered alike, refusals with the same number and place
-  pub alike : map manner_of (told_without requests first.told) ≡ map manner_of second.told
-  -- what is stored was never found outside its limits, with contracts and without
-  pub sound : list_all unspoilt first.told ≡ true
-  pub sound_without : list_all unspoilt second.told ≡ true
-  -- the residue is worked from the postings of the standing hours alone, and all balances together are minus the residue, with contracts and
-  -- without
-  pub left : residue ≡ residue_after o (after form o requests)
-  pub balanced : first.balances ≡ neg_ℤ residue
-  pub balanced_without : second.balances ≡ neg_ℤ residue
-  -- an agent that is party to no standing contract has the same statement with and without the contracts
-  pub strangers : (i : ℕ) → i < count_in o → party_to i (after form o requests).places ≡ 0 → worked form o (after form o (without_contracts requests)) i ≡ worked form o (after form o requests) i
-  -- how it came to stand does not matter, nor which form of the same meaning was asked: what leaves the same standing gives every agent the
-  -- same statement
-  pub order : (same : Meaning) → Alike form same → (other : List Request) → Level o (after form o requests) (after same o other) → (i : ℕ) → i < count_in o → worked same o (after same o other) i ≡ worked form o (after form o requests) i
-  -- the third book accepted all that it heard, and the same stands in it, so that every agent has the same statement
-  pub repeated : list_all is_done third.told ≡ true
-  pub level : Level o (after form o requests) (after form o (only_standing o (after form o requests)))
-  pub same : third.statements ≡ first.statements
+  pub answers : AnsweredAlike requests first second
+  pub stores : StoresSoundly first
+  pub stores_without : StoresSoundly second
+  pub balances : Balances form o requests first second residue
+  pub strangers : Strangers form o requests
+  pub order : SameStanding form o requests
+  pub forms : SameForms form o
+  pub again : Repeats form o requests first third

@@ -1,4 +1,11 @@
+pub mod Limits
 pub mod Requests
 pub mod Standing
+pub mod Faults
+pub mod Turns
+pub mod Level
+pub mod Parties
+pub mod Only
 pub mod Worked
+pub mod Replies
 pub mod Law

@@ -1,0 +1,109 @@
+-- Two forms of the same meaning give the same answers, whole, and leave the same standing. Assumes nothing.
+use Rattle.std.proofs.Common.{◌≡◌, ℕ, ◌-◌, Bool, true, false, cond, not, ◌&&◌, List, [], ◌∷◌, Option, sym, refl, ap, ◌∙◌}
+use Rattle.std.specs.List.{list_all}
+use Rattle.std.proofs.lemmas.Bool.{and_parts}
+use Rattle.std.proofs.lemmas.List.Sorted.{IsPermutation-refl}
+use Rattle.forms.specs.declared.Contract.{Contract}
+use Rattle.forms.specs.Meaning.{Meaning, Keeps, Alike}
+use Rattle.forms.specs.Terms.{number_fits, numbers_apart, party_fits, parties_fit, figures_fit, hours_fit}
+use Rattle.forms.specs.declared.Parties.{Parties}
+use Rattle.settlement.specs.declared.faults.BookFault.{BookFault}
+use Rattle.settlement.specs.declared.faults.BookFault.TheVariants.{ContractTerms}
+use Rattle.settlement.specs.ContractFaults.{parties_of, in_book, taken_fault, covered_fault, contract_fault}
+use Rattle.settlement.specs.Faults.{met_if, first_met}
+use Rattle.tally.proofs.Numbers.{map_counting_same, int_lawful}
+use Rattle.forms.specs.Parties.{party_numbers, members_of}
+use Rattle.tally.proofs.Sums.{total_over_same}
+use Rattle.standing.specs.Law.{Book, Ran}
+use Rattle.standing.specs.Requests.{Opening, count_in, hours_in, Request, entering, statement}
+use Rattle.standing.specs.Standing.{Standing, nothing_stands, stands, setting_in}
+use Rattle.standing.specs.Faults.{fault_met}
+use Rattle.standing.specs.Turns.{Manner, was_done, was_skipped, can_ask, judged, manner, left_by, next, standing_after, after}
+use Rattle.standing.specs.Level.{Level, standing_contracts}
+use Rattle.standing.specs.Worked.{worked, agent_balance}
+use Rattle.standing.specs.Replies.{stated, told_as, reply, replies_from}
+use Rattle.standing.proofs.Order.{order}
+use Rattle.standing.proofs.Sound.{Opened, Sound}
+use Rattle.standing.proofs.Soundness.{sound_none, sound_next, sound_after}
+
+-- what stands is the same as itself
+pub level_itself : (o : Opening) (s : Standing) → Level o s s
+level_itself o s = record { hours = λ hour within. refl; contracts = IsPermutation-refl (standing_contracts s.places); state = refl }
+
+module _ (form : Meaning) (keeps : Keeps form) (o : Opening) (opened : Opened o) (same : Meaning) (alike : Alike form same) where
+  -- the same contracts may stand: the forms are asked where the parties are agents of the book, and take the same terms of those
+  contract_alike : (s : Standing) (c : Contract) → contract_fault (setting_in same o s) c ≡ contract_fault (setting_in form o s) c
+  contract_alike s c = by (list_all (in_book o.agents) (party_numbers c) && parties_fit c parties) refl
+    where
+      parties : Parties
+      parties = parties_of o.agents c
+
+      fault : (between taken : Bool) → Option BookFault
+      fault between taken =
+          first_met (met_if (not between) ContractTerms ∷ met_if (not (hours_fit (hours_in o) c)) ContractTerms ∷ met_if (not (figures_fit c && taken)) ContractTerms ∷ [])
+
+      by : (between : Bool) → (list_all (in_book o.agents) (party_numbers c) && parties_fit c parties) ≡ between →
+          fault between (same.takes c parties) ≡ fault between (form.takes c parties)
+      by false apart = refl
+      by true between =
+          let fit = (and_parts (list_all (in_book o.agents) (party_numbers c)) (parties_fit c parties) between).1 in
+          let members = (and_parts (list_all number_fits (party_numbers c) && numbers_apart (party_numbers c)) _ fit).1 in
+          ap (fault true) (sym (alike.takes c parties (and_parts (list_all party_fits (members_of parties)) _ members).0))
+
+  -- so a request meets the same fault
+  fault_alike : (s : Standing) (r : Request) → fault_met same o s r ≡ fault_met form o s r
+  fault_alike s (entering number c) = ap (λ row. first_met (taken_fault s.places number ∷ row ∷ covered_fault (stands s) c ∷ [])) (contract_alike s c)
+  fault_alike s _ = refl
+
+  manner_alike : (s : Standing) (r : Request) → manner same o s r ≡ manner form o s r
+  manner_alike s r = ap (λ fault. cond (can_ask s.state r) (judged fault) was_skipped) (fault_alike s r)
+
+  -- and leaves the same
+  next_alike : (s : Standing) (r : Request) → next same o s r ≡ next form o s r
+  next_alike s r = ap (λ m. left_by m r s) (manner_alike s r)
+
+  -- what stands is worked to the same statements
+  worked_alike : (s : Standing) → Sound form o s → (i : ℕ) → worked same o s i ≡ worked form o s i
+  worked_alike s sound i = order form keeps o opened s sound same alike s (level_itself o s) i
+
+  -- so the same is told
+  told_alike : (s : Standing) → Sound form o s → (r : Request) (m : Manner) → told_as same o s r m ≡ told_as form o s r m
+  told_alike s sound (statement agent) was_done = ap stated (worked_alike s sound (agent - 1))
+  told_alike s sound _ was_done = refl
+  told_alike s sound r _ = refl
+
+  reply_alike : (s : Standing) → Sound form o s → (r : Request) → reply same o s r ≡ reply form o s r
+  reply_alike s sound r = ap (told_as same o s r) (manner_alike s r) ∙ told_alike s sound r (manner form o s r)
+
+  -- of every list of requests, from whatever stands
+  replies_from_alike : (s : Standing) → Sound form o s → (requests : List Request) → replies_from same o s requests ≡ replies_from form o s requests
+  replies_from_alike s sound [] = refl
+  replies_from_alike s sound (r ∷ rs) =
+      let rest = ap (λ t. replies_from same o t rs) (next_alike s r) ∙ replies_from_alike (next form o s r) (sound_next form o s sound r) rs in
+      λ t. reply_alike s sound r t ∷ rest t
+
+  standing_after_alike : (s : Standing) (requests : List Request) → standing_after same o s requests ≡ standing_after form o s requests
+  standing_after_alike s [] = refl
+  standing_after_alike s (r ∷ rs) = ap (λ t. standing_after same o t rs) (next_alike s r) ∙ standing_after_alike (next form o s r) rs
+
+  module _ (requests : List Request) where
+    pub replies_alike : replies_from same o nothing_stands requests ≡ replies_from form o nothing_stands requests
+    replies_alike = replies_from_alike nothing_stands (sound_none form o) requests
+
+    pub after_alike : after same o requests ≡ after form o requests
+    after_alike = standing_after_alike nothing_stands requests
+
+    -- the statement of each agent at the end
+    statement_alike : (i : ℕ) → worked same o (after same o requests) i ≡ worked form o (after form o requests) i
+    statement_alike i = ap (λ s. worked same o s i) after_alike ∙ worked_alike (after form o requests) (sound_after form o requests) i
+
+    -- so a book that was run by the one was run as the other says
+    pub ran_alike : (book : Book) → Ran same o requests book → Ran form o requests book
+    ran_alike book ran = record {
+      answers = ran.answers ∙ replies_alike;
+      stands = ran.stands ∙ map_counting_same (count_in o) (worked same o (after same o requests)) (worked form o (after form o requests)) (λ i agent. statement_alike i);
+      together =
+          ran.together
+          ∙ total_over_same int_lawful 0 (count_in o) (agent_balance same o (after same o requests)) (agent_balance form o (after form o requests))
+          (λ i low agent. ap (λ w. w.balance) (statement_alike i));
+    }

@@ -1,0 +1,42 @@
+-- Where the same postings stand in two books, energies, peaks and residues are the same. Assumes nothing.
+use Rattle.std.proofs.Common.{◌≡◌, ℕ, ◌<◌, ℤ, ap, arith}
+use Rattle.tally.specs.declared.peak.Peak.{Peak}
+use Rattle.tally.specs.Peak.{peak_of}
+use Rattle.tally.specs.PeakLaws.{peak_lawful}
+use Rattle.forms.specs.Meaning.{Meaning}
+use Rattle.tally.specs.Lines.{Lines, lines_joined, alone, balance_of}
+use Rattle.tally.specs.declared.money.MoneyLine.TheVariants.{Power}
+use Rattle.tally.proofs.Sums.{total_over_same}
+use Rattle.tally.proofs.Numbers.{nat_lawful}
+use Rattle.standing.specs.Requests.{Opening, hours_in}
+use Rattle.standing.specs.Standing.{Standing}
+use Rattle.standing.specs.Faults.{withdrawn_in, withdrawn_of}
+use Rattle.standing.specs.Worked.{lines_between, power_of, injected_in, injected_of, peak_for, Worked, worked}
+
+module _ (o : Opening) (s t : Standing) (same : (hour : ℕ) → hour < hours_in o → s.posted hour ≡ t.posted hour) (i : ℕ) where
+  pub injected_same : injected_of o s i ≡ injected_of o t i
+  injected_same =
+      total_over_same nat_lawful 0 (hours_in o) (λ hour. injected_in i (s.posted hour)) (λ hour. injected_in i (t.posted hour))
+      (λ hour low within. ap (injected_in i) (same hour (omega arith)))
+
+  pub withdrawn_same : withdrawn_of o s i ≡ withdrawn_of o t i
+  withdrawn_same =
+      total_over_same nat_lawful 0 (hours_in o) (λ hour. withdrawn_in i (s.posted hour)) (λ hour. withdrawn_in i (t.posted hour))
+      (λ hour low within. ap (withdrawn_in i) (same hour (omega arith)))
+
+  pub peak_same : peak_for o s i ≡ peak_for o t i
+  peak_same =
+      total_over_same peak_lawful 0 (hours_in o) (λ hour. peak_of (withdrawn_in i (s.posted hour)) hour) (λ hour. peak_of (withdrawn_in i (t.posted hour)) hour)
+      (λ hour low within. ap (λ q. peak_of (withdrawn_in i q) hour) (same hour (omega arith)))
+
+-- a statement from its hours' lines, its power, its energies and its peak
+abbrev stated_with : Lines → ℤ → (injected withdrawn : ℕ) → Peak → Worked
+stated_with hours power injected withdrawn peak =
+    let lines : Lines = lines_joined hours (alone Power power) in
+    record { lines = lines; balance = balance_of lines; injected = injected; withdrawn = withdrawn; peak = peak }
+
+-- where the same postings stand, the lines of the hours and the power line tell whether two statements are the same
+pub worked_same : (form other : Meaning) (o : Opening) (s t : Standing) → ((hour : ℕ) → hour < hours_in o → s.posted hour ≡ t.posted hour) → (i : ℕ) →
+    lines_between form o s 0 (hours_in o) i ≡ lines_between other o t 0 (hours_in o) i → power_of o s i ≡ power_of o t i → worked form o s i ≡ worked other o t i
+worked_same form other o s t same i lines power =
+    λ x. stated_with (lines x) (power x) (injected_same o s t same i x) (withdrawn_same o s t same i x) (peak_same o s t same i x)

@@ -1,0 +1,44 @@
+-- The fault that a request meets against what stands. Assumes nothing.
+use Rattle.std.specs.Prelude.{ℕ, not, ◌||◌, [], ◌∷◌, Some, None, Option, ◌==◌, nat_lt}
+use Rattle.std.specs.Option.{option_map}
+use Rattle.forms.specs.Meaning.{Meaning}
+use Rattle.settlement.specs.declared.faults.BookFault.{BookFault}
+use Rattle.settlement.specs.declared.faults.BookFault.TheVariants.{Posting as PostingFault, OutsideBook, FreeHour, MissingHour, NoPowerCarrier}
+use Rattle.settlement.specs.declared.faults.LineFault.TheVariants.{Packet}
+use Rattle.settlement.specs.ContractFaults.{taken_fault, vacant_fault, covered_fault, covered_in, place_at, contract_fault}
+use Rattle.settlement.specs.Faults.{met_if, first_met, of_posting}
+use Rattle.settlement.specs.Posting.{line_at, Posting}
+use Rattle.settlement.specs.PostingFaults.{hour_fault, posting_fault}
+use Rattle.settlement.specs.Power.{power_uncarried}
+use Rattle.tally.specs.Failing.{first_failing}
+use Rattle.tally.specs.Sums.{sum_to}
+use Rattle.standing.specs.Requests.{Opening, count_in, hours_in, Request, posting, unread, withdrawal, entering, cancelling, closing, statement}
+use Rattle.standing.specs.Standing.{Standing, stands, setting_in}
+
+-- the energy that an agent, counted from 0, withdrew in an hour
+abbrev pub withdrawn_in : ℕ → Option Posting → ℕ
+withdrawn_in i None = 0
+withdrawn_in i (Some p) = (line_at p.lines i).withdrawn
+
+-- and in all standing hours
+abbrev pub withdrawn_of : Opening → Standing → ℕ → ℕ
+withdrawn_of o s i = sum_to (hours_in o) (λ hour. withdrawn_in i (s.posted hour))
+
+-- the fault of a closing: an hour is missing, or nothing carries the power that is due
+abbrev pub closing_fault : Opening → Standing → Option BookFault
+closing_fault o s =
+    first_met (option_map (λ hour. MissingHour hour) (first_failing (stands s) 0 (hours_in o))
+    ∷ met_if (power_uncarried o.agents (withdrawn_of o s)) NoPowerCarrier ∷ [])
+
+-- the fault that a request meets, the smallest number first
+abbrev pub fault_met : Meaning → Opening → Standing → Request → Option BookFault
+fault_met form o s (posting p) = posting_fault (setting_in form o s) p
+fault_met form o s (unread fault) = Some (PostingFault (Packet fault))
+fault_met form o s (withdrawal hour) =
+    first_met (of_posting (hour_fault (hours_in o) hour) ∷ met_if (not (stands s hour)) (FreeHour hour) ∷ [])
+fault_met form o s (entering number c) =
+    first_met (taken_fault s.places number ∷ contract_fault (setting_in form o s) c ∷ covered_fault (stands s) c ∷ [])
+fault_met form o s (cancelling number) =
+    first_met (vacant_fault s.places number ∷ covered_in (stands s) (place_at s.places number) ∷ [])
+fault_met form o s closing = closing_fault o s
+fault_met form o s (statement agent) = met_if (agent == 0 || nat_lt (count_in o) agent) OutsideBook
