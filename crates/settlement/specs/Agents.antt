@@ -10,7 +10,8 @@ use Rattle.settlement.specs.Limits.{most_power}
 abbrev pub agent_fits : Agent → Bool
 agent_fits a =
     is_some (role_of a.role)
-    && (nat_le a.capacity most_energy && (nat_le a.power most_power && (has_role generates a.role || a.power == 0)))
+    && (nat_le a.capacity most_energy && (nat_le a.power most_power
+    && (has_role generates a.role || a.power == 0)))
 
 -- what stands past the last agent: no role at all
 abbrev pub no_agent : Agent

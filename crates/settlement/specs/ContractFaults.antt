@@ -31,6 +31,10 @@ parties_of agents c = record {
 abbrev pub in_book : List Agent → ℕ → Bool
 in_book agents number = nat_le 1 number && nat_le number (length agents)
 
+-- all parties to a contract are
+abbrev pub all_in_book : List Agent → Contract → Bool
+all_in_book agents c = list_all (in_book agents) (party_numbers c)
+
 -- the parties to a contract are agents of a book of so many
 abbrev pub PartiesKnown : (count : ℕ) → Contract → Type 0
 PartiesKnown count c = All (λ number. (1 ≤ number) × (number ≤ count)) (party_numbers c)
@@ -40,7 +44,7 @@ PartiesKnown count c = All (λ number. (1 ≤ number) × (number ≤ count)) (pa
 abbrev pub contract_faults : Setting → Contract → List (Option BookFault)
 contract_faults setting c =
     let parties : Parties = parties_of setting.agents c in
-    met_if (not (list_all (in_book setting.agents) (party_numbers c) && parties_fit c parties)) ContractTerms
+    met_if (not (all_in_book setting.agents c && parties_fit c parties)) ContractTerms
     ∷ met_if (not (hours_fit (hours_in setting) c)) ContractTerms
     ∷ met_if (not (figures_fit c && setting.form.takes c parties)) ContractTerms ∷ []
 
@@ -70,7 +74,8 @@ number_known number = nat_le 1 number && nat_le number most_contracts
 
 -- 12 at entry: the number is none that contracts may have, or taken
 abbrev pub taken_fault : List (Option Contract) → ℕ → Option BookFault
-taken_fault places number = met_if (not (number_known number) || is_some (place_at places number)) ContractNumber
+taken_fault places number =
+    met_if (not (number_known number) || is_some (place_at places number)) ContractNumber
 
 -- 12 at cancelling: the number is none that contracts may have, or nothing stands under it
 abbrev pub vacant_fault : List (Option Contract) → ℕ → Option BookFault
@@ -80,7 +85,8 @@ vacant_fault places number =
 -- 14: the first covered hour that stands, where this tells which hours do
 abbrev pub covered_fault : (ℕ → Bool) → Contract → Option BookFault
 covered_fault stands c =
-    option_map (λ hour. CoveredHour hour) (first_failing (λ hour. not (stands hour)) c.first (c.last + 1 - c.first))
+    let standing : Option ℕ = first_failing (λ hour. not (stands hour)) c.first (c.last + 1 - c.first) in
+    option_map (λ hour. CoveredHour hour) standing
 
 -- 14 for what is in a contract place
 abbrev pub covered_in : (ℕ → Bool) → Option Contract → Option BookFault

@@ -1,5 +1,6 @@
 -- Accounts and entries: money and energy together. Assumes nothing.
-use Rattle.std.specs.Prelude.{◌≡◌, ℕ, ◌<◌, List, length, ℤ, sum_by, slice_index_or}
+use Rattle.std.specs.Prelude.{◌≡◌, ℕ, ◌<◌, List, map, length, ℤ, sum_by, slice_index_or}
+use Rattle.std.specs.List.{range_with_len}
 use Rattle.tally.specs.declared.money.Money.{Money}
 use Rattle.tally.specs.declared.money.MoneyLine.{MoneyLine}
 use Rattle.tally.specs.declared.money.MoneyLine.TheVariants.{Contract, Power}
@@ -39,6 +40,10 @@ all_withdrawn accounts = sum_by (λ (account : Holding). account.second.withdraw
 abbrev pub entry_of : Figures → Holding
 entry_of f = pair_of (money_of f.lines) (energy_of f.injected f.withdrawn)
 
+-- the entries of so many agents' figures
+abbrev pub entries_of : (figures : ℕ → Figures) → (count : ℕ) → List Holding
+entries_of figures count = map (λ i. entry_of (figures i)) (range_with_len 0 count)
+
 -- points on one line alone
 abbrev pub points_alone : MoneyLine → ℤ → Holding
 points_alone line points = pair_of (money_of (alone line points)) no_energy
@@ -54,7 +59,8 @@ with_points points holding = holding_joined holding (contract_points points)
 -- each agent gets so many points, by its place, on its contract line
 abbrev pub EachGets : (points : ℕ → ℤ) → (before after : List Holding) → Type 0
 EachGets points before after =
-    (i : ℕ) → i < length before → slice_index_or after i no_holding ≡ with_points (points i) (slice_index_or before i no_holding)
+    (i : ℕ) → i < length before →
+    slice_index_or after i no_holding ≡ with_points (points i) (slice_index_or before i no_holding)
 
 -- points on the power line alone
 abbrev pub power_points : ℤ → Holding

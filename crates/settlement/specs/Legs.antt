@@ -17,10 +17,13 @@ use Rattle.settlement.specs.Posting.{Posting, line_at}
 use Rattle.settlement.specs.Setting.{Setting}
 use Rattle.tally.specs.Sums.{sum_to}
 
+-- the energy that the agent at a place withdrew, if it is a distributor
+abbrev pub distributed_at : List Agent → List Line → ℕ → ℕ
+distributed_at agents lines j = counted distributes (agent_at agents j).role (line_at lines j).withdrawn
+
 -- the energy that all distributors withdrew
 abbrev pub distributors_withdrawn : List Agent → List Line → ℕ
-distributors_withdrawn agents lines =
-    sum_to (length lines) (λ j. counted distributes (agent_at agents j).role (line_at lines j).withdrawn)
+distributors_withdrawn agents lines = sum_to (length lines) (distributed_at agents lines)
 
 -- what a contract is settled by in an hour: the hour's band and price, both node factors, the seller's injected and the buyer's
 -- withdrawn energy, and that of all distributors
@@ -67,4 +70,5 @@ contract_line setting p i = contract_points_of (is_number i) setting p
 -- what a posting gives the agent at place i
 abbrev pub hour_of : Setting → Posting → ℕ → Figures
 hour_of setting p i =
-    figures_with p.price (line_at p.lines i) (contract_line setting p i) (caused_sum p i) (carried_by setting.agents p i)
+    let points : ℤ = contract_line setting p i in
+    figures_with p.price (line_at p.lines i) points (caused_sum p i) (carried_by setting.agents p i)

@@ -10,7 +10,9 @@ use Rattle.valuation.specs.Limits.{most_energy, most_price, least_factor, most_f
 -- 1 is normal, 2 obligated, 3 forced
 abbrev pub class_of : ℕ → Option Class
 class_of code =
-    if code == 1 then Some Normal else (if code == 2 then Some Obligated else (if code == 3 then Some Forced else None))
+    if code == 1 then Some Normal
+    else (if code == 2 then Some Obligated
+    else (if code == 3 then Some Forced else None))
 
 -- energies, node factor and cost are within their limits
 abbrev pub line_within : Line → Bool
@@ -28,7 +30,8 @@ abbrev pub class_kept : ℕ → Option Role → Line → Option Class → Bool
 class_kept count role l None = false
 class_kept count role l (Some Normal) = l.gross == 0 && (l.cost == 0 && l.cause == 0)
 class_kept count role l (Some Obligated) = must_run role l && l.cause == 0
-class_kept count role l (Some Forced) = must_run role l && (nat_le 1 l.cause && nat_le l.cause count)
+class_kept count role l (Some Forced) =
+    must_run role l && (nat_le 1 l.cause && nat_le l.cause count)
 
 -- a line of an agent with this role keeps the rule of its class, in a book of so many agents
 abbrev pub line_kept : ℕ → Option Role → Line → Bool
@@ -36,4 +39,12 @@ line_kept count role l = class_kept count role l (class_of l.class)
 
 -- what stands past the last line: nothing at all
 abbrev pub no_line : Line
-no_line = record { class = 0; cause = 0; injected = 0; withdrawn = 0; gross = 0; factor = 0; cost = 0 }
+no_line = record {
+  class = 0;
+  cause = 0;
+  injected = 0;
+  withdrawn = 0;
+  gross = 0;
+  factor = 0;
+  cost = 0;
+}

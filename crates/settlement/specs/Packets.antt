@@ -12,7 +12,15 @@ use Rattle.settlement.specs.Posting.{Posting}
 
 -- the line of a posting that the line of a packet says
 abbrev pub line_in : PacketLine → Line
-line_in l = record { class = l.class; cause = l.cause; injected = l.injected; withdrawn = l.withdrawn; gross = l.gross; factor = l.factor; cost = l.cost }
+line_in l = record {
+  class = l.class;
+  cause = l.cause;
+  injected = l.injected;
+  withdrawn = l.withdrawn;
+  gross = l.gross;
+  factor = l.factor;
+  cost = l.cost;
+}
 
 -- what the figures of a packet say: hour and price, and after the number of lines the lines
 abbrev pub posting_by : List ℕ → Posting

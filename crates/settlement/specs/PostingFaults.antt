@@ -15,7 +15,7 @@ use Rattle.settlement.specs.Faults.{met_if, first_met, of_posting}
 use Rattle.settlement.specs.Hour.{obligated_sum, weights_of}
 use Rattle.settlement.specs.Lines.{line_within, line_kept}
 use Rattle.settlement.specs.Posting.{Posting, line_at}
-use Rattle.settlement.specs.Setting.{Setting, hours_in}
+use Rattle.settlement.specs.Setting.{Setting, hours_in, count_in}
 use Rattle.tally.specs.Sums.{sum_to}
 
 -- 4: the hour lies outside a month of so many hours
@@ -24,12 +24,17 @@ hour_fault hours hour = met_if (nat_le hours hour) (HourOutside hour)
 
 -- 5 at place 0: another number of lines than agents, or a price above its limit
 abbrev pub head_fault : (count : ℕ) → Posting → Option LineFault
-head_fault count p = met_if (not (length p.lines == count) || nat_lt most_price p.price) (OutsideLimit 0)
+head_fault count p =
+    met_if (not (length p.lines == count) || nat_lt most_price p.price) (OutsideLimit 0)
+
+-- the line at a place has its figures within their limits
+abbrev pub within_at : List Line → ℕ → Bool
+within_at lines i = line_within (line_at lines i)
 
 -- 5: the first line, from 1, with a figure outside its limit
 abbrev pub limit_fault : List Line → Option LineFault
 limit_fault lines =
-    option_map (λ i. OutsideLimit (i + 1)) (first_failing (λ i. line_within (line_at lines i)) 0 (length lines))
+    option_map (λ i. OutsideLimit (i + 1)) (first_failing (within_at lines) 0 (length lines))
 
 -- the line at a place keeps the rule of its class
 abbrev pub kept_at : List Agent → List Line → ℕ → Bool
@@ -37,7 +42,8 @@ kept_at agents lines i = line_kept (length agents) (role_at agents i) (line_at l
 
 -- 6: the first line, from 1, that breaks the rule of its class
 abbrev pub rule_fault : List Agent → List Line → Option LineFault
-rule_fault agents lines = option_map (λ i. BreaksRule (i + 1)) (first_failing (kept_at agents lines) 0 (length lines))
+rule_fault agents lines =
+    option_map (λ i. BreaksRule (i + 1)) (first_failing (kept_at agents lines) 0 (length lines))
 
 -- all injected and all withdrawn energy of the hour
 abbrev pub injected_together : List Line → ℕ
@@ -49,12 +55,13 @@ withdrawn_together lines = sum_to (length lines) (λ i. (line_at lines i).withdr
 -- 7: all injected or all withdrawn energy is above the limit of an hour
 abbrev pub together_fault : List Line → Option LineFault
 together_fault lines =
-    met_if (nat_lt most_energy (injected_together lines) || nat_lt most_energy (withdrawn_together lines)) TooMuchTogether
+    let is_more : ℕ → Bool = nat_lt most_energy in
+    met_if (is_more (injected_together lines) || is_more (withdrawn_together lines)) TooMuchTogether
 
 -- the faults of a posting's own figures, in the order of the numbers, and the first of them
 abbrev pub line_faults : Setting → Posting → List (Option LineFault)
 line_faults setting p =
-    hour_fault (hours_in setting) p.hour ∷ head_fault (length setting.agents) p ∷ limit_fault p.lines
+    hour_fault (hours_in setting) p.hour ∷ head_fault (count_in setting) p ∷ limit_fault p.lines
     ∷ rule_fault setting.agents p.lines ∷ together_fault p.lines ∷ []
 
 abbrev pub line_fault : Setting → Posting → Option LineFault
@@ -66,7 +73,8 @@ uncarried agents p = nat_lt 0 (obligated_sum p) && sum (weights_of agents p.line
 
 -- the faults of a posting: its own, and then that nothing carries its excess
 abbrev pub posting_faults : Setting → Posting → List (Option BookFault)
-posting_faults setting p = of_posting (line_fault setting p) ∷ met_if (uncarried setting.agents p) NoCarrier ∷ []
+posting_faults setting p =
+    of_posting (line_fault setting p) ∷ met_if (uncarried setting.agents p) NoCarrier ∷ []
 
 abbrev pub posting_fault : Setting → Posting → Option BookFault
 posting_fault setting p = first_met (posting_faults setting p)

@@ -1,5 +1,5 @@
 -- What power comes to at closing. Agents are counted from 0. Assumes nothing.
-use Rattle.std.specs.Prelude.{ℕ, ◌*◌, Bool, ◌&&◌, List, length, ℤ, pos, ◌-ℤ◌, sum, ◌==◌, nat_lt, slice_index_or}
+use Rattle.std.specs.Prelude.{ℕ, ◌*◌, Bool, ◌&&◌, List, map, length, ℤ, pos, ◌-ℤ◌, sum, ◌==◌, nat_lt, slice_index_or}
 use Rattle.forms.specs.Roles.{carries}
 use Rattle.valuation.specs.Sharing.{part_of}
 use Rattle.settlement.specs.declared.agents.Agent.{Agent}
@@ -7,6 +7,7 @@ use Rattle.settlement.specs.Agents.{agent_at, counted}
 use Rattle.settlement.specs.Holdings.{Holding, no_holding, holding_joined, withdrawn_on, power_points}
 use Rattle.settlement.specs.Hour.{weights_in}
 use Rattle.settlement.specs.Limits.{points_per_kw}
+use Rattle.std.specs.List.{range_with_len}
 use Rattle.tally.specs.Sums.{sum_to}
 
 -- what an agent is credited for its remunerable power
@@ -26,7 +27,8 @@ power_weights agents withdrawn = weights_in (length agents) (power_weight agents
 
 -- 11: power is due, and no weight carries it
 abbrev pub power_uncarried : List Agent → (withdrawn : ℕ → ℕ) → Bool
-power_uncarried agents withdrawn = nat_lt 0 (power_due agents) && sum (power_weights agents withdrawn) == 0
+power_uncarried agents withdrawn =
+    nat_lt 0 (power_due agents) && sum (power_weights agents withdrawn) == 0
 
 -- the part of it that the agent at place i carries
 abbrev pub power_part : List Agent → (withdrawn : ℕ → ℕ) → ℕ → ℕ
@@ -39,4 +41,9 @@ power_line agents withdrawn i = pos (power_credit agents i) -ℤ pos (power_part
 -- the account of the agent at place i, with its power line
 abbrev pub charged_at : List Agent → List Holding → ℕ → Holding
 charged_at agents accounts i =
-    holding_joined (slice_index_or accounts i no_holding) (power_points (power_line agents (withdrawn_on accounts) i))
+    let line : ℤ = power_line agents (withdrawn_on accounts) i in
+    holding_joined (slice_index_or accounts i no_holding) (power_points line)
+
+-- all accounts with theirs
+abbrev pub accounts_charged : List Agent → List Holding → List Holding
+accounts_charged agents accounts = map (charged_at agents accounts) (range_with_len 0 (length accounts))

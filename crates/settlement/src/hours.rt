@@ -1,10 +1,9 @@
 //! What a posting's own lines give each agent at its hour.
-ghost use Rattle.std.specs.Prelude.{◌≡◌, ℕ, ◌<◌, ◌≤◌, true, map, length};
-ghost use Rattle.std.specs.List.{range_with_len};
+ghost use Rattle.std.specs.Prelude.{◌≡◌, ◌<◌, ◌≤◌, true, length};
 ghost use Rattle.std.specs.Result.{result_err};
 ghost use Rattle.forms.specs.Limits.{most_agents};
 ghost use Rattle.settlement.specs.Faults.{met_if};
-ghost use Rattle.settlement.specs.Holdings.{entry_of};
+ghost use Rattle.settlement.specs.Holdings.{entries_of};
 ghost use Rattle.settlement.specs.Hour.{obligated_sum, caused_sum, weight_at, own_of};
 ghost use Rattle.settlement.specs.Limits.{most_excess};
 ghost use Rattle.settlement.specs.Lines.{line_within};
@@ -92,8 +91,8 @@ impl CheckedPosting<'_> {
     fn fill_entries_by(&self, parts: &mut [u64], fresh: &mut [Holding])
         requires parts_long { length parts.old ≡ length self.now.posting.lines.now }
         requires fresh_long { length fresh.old ≡ length self.now.posting.lines.now }
-        ensures { let own = λ (i : ℕ). entry_of (own_of self.now.agents.now (posting_of self.now.posting) i) in
-            fresh.new ≡ map own (range_with_len 0 (length self.now.posting.lines.now)) }
+        ensures { let own = own_of self.now.agents.now (posting_of self.now.posting) in
+            fresh.new ≡ entries_of own (length self.now.posting.lines.now) }
     {
         fill_parts(self, parts);
         for (i, line) in self.posting.lines.iter().enumerate() {
@@ -104,8 +103,8 @@ impl CheckedPosting<'_> {
     /// Writes the entry of each agent, contracts aside, to its place.
     pub(crate) fn fill_entries(&self, fresh: &mut [Holding])
         requires { length fresh.old ≡ length self.now.posting.lines.now }
-        ensures { let own = λ (i : ℕ). entry_of (own_of self.now.agents.now (posting_of self.now.posting) i) in
-            fresh.new ≡ map own (range_with_len 0 (length self.now.posting.lines.now)) }
+        ensures { let own = own_of self.now.agents.now (posting_of self.now.posting) in
+            fresh.new ≡ entries_of own (length self.now.posting.lines.now) }
     {
         let mut parts = [0u64; 64];
         self.fill_entries_by(&mut parts[..self.posting.lines.len()], fresh);

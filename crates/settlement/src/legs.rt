@@ -1,10 +1,10 @@
 //! What contracts put on their parties' contract lines, and so all that an hour gives.
-ghost use Rattle.std.specs.Prelude.{◌≡◌, ℕ, ◌+◌, ◌≤◌, true, map, length, pos, if◌then◌else◌, nat_eq};
-ghost use Rattle.std.specs.List.{range_with_len, list_all};
+ghost use Rattle.std.specs.Prelude.{◌≡◌, ℕ, ◌+◌, ◌≤◌, true, length, pos, if◌then◌else◌, nat_eq};
+ghost use Rattle.std.specs.List.{list_all};
 ghost use Rattle.forms.specs.Meaning.{Balanced};
 ghost use Rattle.forms.specs.Parties.{legs_by_party};
 ghost use Rattle.settlement.specs.ContractFaults.{PartiesKnown, contract_fits, place_fits, covers};
-ghost use Rattle.settlement.specs.Holdings.{with_points, EachGets, entry_of};
+ghost use Rattle.settlement.specs.Holdings.{with_points, EachGets, entries_of};
 ghost use Rattle.settlement.specs.Legs.{distributors_withdrawn, facts_of, legs_of, is_number, given_to, given_in, contract_line, hour_of};
 ghost use Rattle.settlement.specs.Posting.{posting_of};
 ghost use Rattle.settlement.specs.PostingFaults.{PostingFits};
@@ -52,7 +52,8 @@ fn legs_by_party(contract: Contract, legs: Legs) -> [(u32, i64); 2]
 fn put_legs(contract: Contract, legs: Legs, fresh: &mut [Holding])
     requires known { PartiesKnown (length fresh.old) contract }
     requires balanced { Balanced legs }
-    ensures { EachGets (λ i. given_to (is_number i) (legs_by_party contract legs)) fresh.old fresh.new }
+    ensures { let given = λ (i : ℕ). given_to (is_number i) (legs_by_party contract legs) in
+        EachGets given fresh.old fresh.new }
 {
     for (number, points) in &legs_by_party(contract, legs) {
         put_leg(*number, *points, fresh);
@@ -66,7 +67,8 @@ struct HourSetting<'a, F> {
     stamp: HourStamp,
     posting: Posting<'a>,
     distributors: u32,
-    ghost stamped: { (stamp.hour ≡ posting.hour) × (stamp.calendar ≡ setting.now.calendar) } by { Prim.hlevel props },
+    ghost stamped: { stamp.hour ≡ posting.hour },
+    ghost same_calendar: { stamp.calendar ≡ setting.now.calendar } by { Prim.hlevel props },
     ghost fits: { PostingFits (posting_of posting) } by { Prim.hlevel props },
     ghost agents_long: { length setting.now.agents.now ≡ length posting.lines.now },
     ghost distributed: { distributors ≡ distributors_withdrawn setting.now.agents.now posting.lines.now },
@@ -76,8 +78,8 @@ impl<F: ContractForm> HourSetting<'_, F> {
     /// What a contract is settled by in the hour.
     fn facts(&self, contract: Contract) -> Facts
         requires { PartiesKnown (length self.now.posting.lines.now) contract }
-        ensures { let setting = setting_of (F.meaning self.now.setting.now.form.now) self.now.setting.now in
-            result ≡ facts_of setting (posting_of self.now.posting) contract }
+        ensures { let s = self.now.setting.now in
+            result ≡ facts_of (setting_of (F.meaning s.form.now) s) (posting_of self.now.posting) contract }
     {
         let seller = self.posting.lines[contract.seller as usize - 1];
         let buyer = self.posting.lines[contract.buyer as usize - 1];
@@ -94,10 +96,10 @@ impl<F: ContractForm> HourSetting<'_, F> {
 
     /// What a contract gives its parties in the hour, where it covers it.
     fn legs_of(&self, contract: Contract) -> Legs
-        requires { let setting = setting_of (F.meaning self.now.setting.now.form.now) self.now.setting.now in
-            contract_fits setting contract ≡ true }
-        ensures value { let setting = setting_of (F.meaning self.now.setting.now.form.now) self.now.setting.now in
-            result ≡ legs_of setting (posting_of self.now.posting) contract }
+        requires { let s = self.now.setting.now in
+            contract_fits (setting_of (F.meaning s.form.now) s) contract ≡ true }
+        ensures value { let s = self.now.setting.now in
+            result ≡ legs_of (setting_of (F.meaning s.form.now) s) (posting_of self.now.posting) contract }
         ensures balanced { Balanced result }
     {
         let parties = self.setting.parties(contract);
@@ -108,11 +110,12 @@ impl<F: ContractForm> HourSetting<'_, F> {
     /// Puts what a contract place comes to in the hour on the contract lines: the legs of a contract that covers it.
     fn put_place(&self, place: &Option<Contract>, fresh: &mut [Holding])
         requires fresh_long { length fresh.old ≡ length self.now.posting.lines.now }
-        requires fits { let setting = setting_of (F.meaning self.now.setting.now.form.now) self.now.setting.now in
-            place_fits setting place.now ≡ true }
-        ensures { let setting = setting_of (F.meaning self.now.setting.now.form.now) self.now.setting.now in
-            let given = λ (i : ℕ). given_in (is_number i) setting (posting_of self.now.posting) place.now in
-            EachGets given fresh.old fresh.new }
+        requires fits { let s = self.now.setting.now in
+            place_fits (setting_of (F.meaning s.form.now) s) place.now ≡ true }
+        ensures { let s = self.now.setting.now in
+            let given = λ (i : ℕ). given_in (is_number i) (setting_of (F.meaning s.form.now) s) in
+            let points = λ (i : ℕ). given i (posting_of self.now.posting) place.now in
+            EachGets points fresh.old fresh.new }
     {
         if let Some(contract) = place {
             if does_cover(*contract, self.posting.hour) {
@@ -123,11 +126,12 @@ impl<F: ContractForm> HourSetting<'_, F> {
 
     /// Puts the legs of every contract that covers the hour on the contract lines of its parties.
     fn put_contracts(&self, fresh: &mut [Holding])
-        requires fit { let setting = setting_of (F.meaning self.now.setting.now.form.now) self.now.setting.now in
-            list_all (place_fits setting) self.now.setting.now.contracts.now ≡ true }
+        requires fit { let s = self.now.setting.now in
+            list_all (place_fits (setting_of (F.meaning s.form.now) s)) s.contracts.now ≡ true }
         requires fresh_long { length fresh.old ≡ length self.now.posting.lines.now }
-        ensures { let setting = setting_of (F.meaning self.now.setting.now.form.now) self.now.setting.now in
-            EachGets (contract_line setting (posting_of self.now.posting)) fresh.old fresh.new }
+        ensures { let s = self.now.setting.now in
+            let lines = contract_line (setting_of (F.meaning s.form.now) s) (posting_of self.now.posting) in
+            EachGets lines fresh.old fresh.new }
     {
         for place in self.setting.contracts {
             self.put_place(place, fresh);
@@ -157,8 +161,8 @@ impl<F: ContractForm> Setting<'_, F> {
             list_all (place_fits setting) self.now.contracts.now ≡ true }
         requires fresh_long { length fresh.old ≡ length checked.now.posting.lines.now }
         ensures { let setting = setting_of (F.meaning self.now.form.now) self.now in
-            let entry = λ (i : ℕ). entry_of (hour_of setting (posting_of checked.now.posting) i) in
-            fresh.new ≡ map entry (range_with_len 0 (length checked.now.posting.lines.now)) }
+            let figures = hour_of setting (posting_of checked.now.posting) in
+            fresh.new ≡ entries_of figures (length checked.now.posting.lines.now) }
     {
         checked.fill_entries(fresh);
         let hour = HourSetting {

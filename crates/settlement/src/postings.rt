@@ -128,7 +128,8 @@ impl<'a, F: ContractForm> Setting<'a, F> {
             result_err result ≡ line_fault setting (posting_of posting.now) }
         ensures posting { IfOk result (λ p. posting_of p.posting ≡ posting_of posting.now) }
         ensures agents { IfOk result (λ p. p.agents.now ≡ self.now.agents.now) }
-        ensures month { IfOk result (λ p. (p.stamp.days ≡ self.now.days) × (p.stamp.calendar ≡ self.now.calendar)) }
+        ensures days { IfOk result (λ p. p.stamp.days ≡ self.now.days) }
+        ensures calendar { IfOk result (λ p. p.stamp.calendar ≡ self.now.calendar) }
         ensures long { OnOk result (length posting.now.lines.now ≡ length self.now.agents.now) }
         ensures fits { OnOk result (PostingFits (posting_of posting.now)) }
     {

@@ -1,13 +1,12 @@
 //! What power comes to when a month is closed.
 ghost use Rattle.std.specs.Prelude.{◌≡◌, ◌*◌, ◌≤◌, map, length, pos, ◌-ℤ◌};
-ghost use Rattle.std.specs.List.{range_with_len};
 ghost use Rattle.std.specs.Result.{result_err};
 ghost use Rattle.valuation.specs.Sharing.{parts_of};
 ghost use Rattle.settlement.specs.Faults.{met_if};
 ghost use Rattle.settlement.specs.Holdings.{holding_joined, withdrawn_on, all_withdrawn, power_points};
 ghost use Rattle.forms.specs.Limits.{most_agents};
 ghost use Rattle.settlement.specs.Limits.{points_per_kw, most_month_energy, most_credit, most_points};
-ghost use Rattle.settlement.specs.Power.{power_due, power_weight, power_weights, power_uncarried, charged_at};
+ghost use Rattle.settlement.specs.Power.{power_due, power_weight, power_weights, power_uncarried, accounts_charged};
 
 use crate::agents::Agent;
 use crate::carrying::{Carried, fill_parts, is_uncarried};
@@ -96,7 +95,7 @@ fn charge_parts(agents: &[Agent], parts: &[u64], accounts: &mut [Holding])
     requires shared { let weights = power_weights agents.now (withdrawn_on accounts.old) in
         parts.now ≡ parts_of (power_due agents.now) weights }
     requires due_within { power_due agents.now ≤ most_points }
-    ensures { accounts.new ≡ map (charged_at agents.now accounts.old) (range_with_len 0 (length accounts.old)) }
+    ensures { accounts.new ≡ accounts_charged agents.now accounts.old }
 {
     for (i, agent) in agents.iter().enumerate() {
         put_power(&mut accounts[i], power_credit(agent), parts[i]);
@@ -108,7 +107,7 @@ pub fn charge_power(agents: &[Agent], accounts: &mut [Holding])
     requires few { length agents.now ≤ most_agents }
     requires accounts_long { length accounts.old ≡ length agents.now }
     requires within { all_withdrawn accounts.old ≤ most_month_energy }
-    ensures { accounts.new ≡ map (charged_at agents.now accounts.old) (range_with_len 0 (length accounts.old)) }
+    ensures { accounts.new ≡ accounts_charged agents.now accounts.old }
 {
     let mut parts = [0u64; 64];
     let parts = &mut parts[..agents.len()];

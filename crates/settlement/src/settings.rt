@@ -66,14 +66,16 @@ impl<F: ContractForm> Setting<'_, F> {
 
     /// Whether a contract may stand.
     pub fn may_stand(&self, contract: Contract) -> bool
-        ensures { result ≡ contract_fits (setting_of (F.meaning self.now.form.now) self.now) contract }
+        ensures { let setting = setting_of (F.meaning self.now.form.now) self.now in
+            result ≡ contract_fits setting contract }
     {
         self.check_contract(contract).is_ok()
     }
 
     /// Whether what is in a contract place may stand there.
     fn is_place_fit(&self, place: &Option<Contract>) -> bool
-        ensures { result ≡ place_fits (setting_of (F.meaning self.now.form.now) self.now) place.now }
+        ensures { let setting = setting_of (F.meaning self.now.form.now) self.now in
+            result ≡ place_fits setting place.now }
     {
         match place {
             Some(contract) => self.may_stand(*contract),
