@@ -1,8 +1,8 @@
 -- The legs of contracts that may stand: their size, what they add up to, and that forms that are alike give the same. Assumes nothing.
-use Rattle.std.proofs.Common.{◌≡◌, ℕ, ◌+◌, ◌-◌, ◌*◌, ◌<◌, ◌≤◌, Bool, true, false, not, cond, ◌&&◌, eqb, List, [], ◌∷◌, map, length, get_or, ℤ, pos, ◌+ℤ◌, nat_abs, Some, None, Option, sym, refl, ap, ◌∙◌, subst, inl, inr, arith}
+use Rattle.std.proofs.Common.{◌≡◌, ℕ, ◌+◌, ◌-◌, ◌*◌, ◌<◌, ◌≤◌, Bool, true, false, not, cond, eqb, List, [], ◌∷◌, map, length, get_or, ℤ, pos, ◌+ℤ◌, nat_abs, Some, None, Option, sym, refl, ap, ◌∙◌, subst, inl, inr, arith}
 use Rattle.std.specs.List.{All, list_all}
 use Rattle.std.proofs.lemmas.Int.{ints}
-use Rattle.std.proofs.lemmas.Bool.{and_parts, cases_eq, cond-true, cond-false, cond_both, eq-eqb, ne_eqb, eqb-true, not-true}
+use Rattle.std.proofs.lemmas.Bool.{and_parts, cases_eq, cond-true, cond-false, cond_both, eq-eqb, ne_eqb}
 use Rattle.std.proofs.lemmas.List.Elements.{All-head, All-tail}
 use Rattle.std.proofs.lemmas.Slice.Zip.{get_or-zip}
 use Rattle.calendar.specs.Limits.{most_days}
@@ -14,13 +14,13 @@ use Rattle.forms.specs.declared.Legs.{Legs}
 use Rattle.forms.specs.Limits.{most_leg}
 use Rattle.forms.specs.Meaning.{Meaning, MayAsk, Balanced, Keeps, Alike}
 use Rattle.forms.specs.Parties.{party_numbers, points_of, points_together, legs_by_party}
-use Rattle.forms.specs.Terms.{numbers_apart, parties_fit}
+use Rattle.forms.specs.Terms.{numbers_apart}
 use Rattle.settlement.specs.ContractFaults.{parties_of, PartiesKnown, contract_fits, place_fits, covers}
 use Rattle.settlement.specs.Legs.{facts_of, legs_of, is_number, given_to, given_in, contract_points_of, contract_line}
 use Rattle.settlement.specs.Posting.{Posting}
 use Rattle.settlement.specs.PostingFaults.{PostingFits}
 use Rattle.settlement.specs.Setting.{Setting}
-use Rattle.settlement.proofs.Settles.{Fitting, fitting, settles}
+use Rattle.settlement.proofs.Settles.{fitting, settles}
 
 -- ---- legs by party
 

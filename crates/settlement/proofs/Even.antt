@@ -1,5 +1,5 @@
 -- What an hour gives all agents together: it comes out even. Assumes nothing.
-use Rattle.std.proofs.Common.{◌≡◌, ℕ, ◌+◌, ◌-◌, ◌<◌, ◌≤◌, Bool, true, false, cond, ◌&&◌, eqb, ltb, leb, ◌⊎◌, List, length, pos, ◌+ℤ◌, ◌-ℤ◌, neg_ℤ, Some, None, sum, Option, sym, refl, ap, ◌∙◌, subst, inl, inr, eq-zero-or-pos, arith}
+use Rattle.std.proofs.Common.{◌≡◌, ℕ, ◌+◌, ◌-◌, ◌<◌, ◌≤◌, Bool, true, false, cond, ◌&&◌, eqb, ltb, leb, ◌⊎◌, List, length, pos, neg_ℤ, Some, None, sum, Option, sym, refl, ap, ◌∙◌, subst, inl, inr, eq-zero-or-pos, arith}
 use Rattle.std.specs.List.{list_all}
 use Rattle.std.proofs.lemmas.List.FromFn.{length-map-range_with_len}
 use Rattle.std.proofs.lemmas.Int.{ints}
@@ -13,7 +13,7 @@ use Rattle.settlement.specs.declared.lines.Class.TheVariants.{Normal, Obligated,
 use Rattle.settlement.specs.declared.lines.Line.{Line}
 use Rattle.settlement.specs.Agents.{role_at}
 use Rattle.settlement.specs.Hour.{injected_amount, withdrawn_amount, market_line, excess_in, excess_on, is_obligated, is_forced, obligated_on, obligated_sum, caused_on, caused_sum, weight_at, weights_of, carried_by, overcost_line, residue_of}
-use Rattle.settlement.specs.Lines.{class_of, must_run, class_kept, line_kept}
+use Rattle.settlement.specs.Lines.{class_of, must_run, class_kept}
 use Rattle.settlement.specs.Posting.{Posting, line_at}
 use Rattle.settlement.specs.PostingFaults.{kept_at, uncarried}
 use Rattle.calendar.specs.Limits.{most_days}

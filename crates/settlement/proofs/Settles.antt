@@ -1,10 +1,10 @@
 -- A contract that may stand, in an hour whose posting fits, may be asked of its form by the facts of that hour. Assumes nothing.
-use Rattle.std.proofs.Common.{◌≡◌, ℕ, ◌+◌, ◌-◌, ◌<◌, ◌≤◌, Bool, true, false, cond, ◌&&◌, ltb, leb, List, length, refl, arith}
+use Rattle.std.proofs.Common.{◌≡◌, ℕ, ◌+◌, ◌-◌, ◌<◌, ◌≤◌, Bool, true, false, cond, ◌&&◌, leb, List, length, refl, arith}
 use Rattle.std.specs.List.{list_all}
-use Rattle.std.proofs.lemmas.Bool.{and_parts, leb-true, ltb-true, le-leb, cond-true, cond-false}
+use Rattle.std.proofs.lemmas.Bool.{and_parts, leb-true, le-leb, cond-true, cond-false}
 use Rattle.std.proofs.lemmas.List.Elements.{All-weaker}
 use Rattle.std.proofs.lemmas.List.Sums.{AllPass-from_list_all}
-use Rattle.calendar.specs.Limits.{most_days, most_hours}
+use Rattle.calendar.specs.Limits.{most_days}
 use Rattle.forms.specs.declared.Contract.{Contract}
 use Rattle.forms.specs.declared.Facts.{Facts}
 use Rattle.forms.specs.declared.Parties.{Parties}

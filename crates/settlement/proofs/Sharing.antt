@@ -1,5 +1,5 @@
 -- Energy that counts by roles, and the weights of an hour's sharing. Assumes nothing.
-use Rattle.std.proofs.Common.{ℕ, ◌+◌, ◌<◌, ◌≤◌, Bool, true, false, cond, List, length, sum, arith}
+use Rattle.std.proofs.Common.{ℕ, ◌≤◌, Bool, true, false, cond, List, length, sum, arith}
 use Rattle.forms.specs.declared.roles.Role.{Role}
 use Rattle.forms.specs.Roles.{carries, has_role}
 use Rattle.settlement.specs.declared.agents.Agent.{Agent}

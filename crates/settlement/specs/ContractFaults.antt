@@ -85,8 +85,8 @@ vacant_fault places number =
 -- 14: the first covered hour that stands, where this tells which hours do
 abbrev pub covered_fault : (ℕ → Bool) → Contract → Option BookFault
 covered_fault stands c =
-    let standing : Option ℕ = first_failing (λ hour. not (stands hour)) c.first (c.last + 1 - c.first) in
-    option_map (λ hour. CoveredHour hour) standing
+    let free : ℕ → Bool = λ hour. not (stands hour) in
+    option_map (λ hour. CoveredHour hour) (first_failing free c.first (c.last + 1 - c.first))
 
 -- 14 for what is in a contract place
 abbrev pub covered_in : (ℕ → Bool) → Option Contract → Option BookFault

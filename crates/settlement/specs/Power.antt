@@ -46,4 +46,5 @@ charged_at agents accounts i =
 
 -- all accounts with theirs
 abbrev pub accounts_charged : List Agent → List Holding → List Holding
-accounts_charged agents accounts = map (charged_at agents accounts) (range_with_len 0 (length accounts))
+accounts_charged agents accounts =
+    map (charged_at agents accounts) (range_with_len 0 (length accounts))

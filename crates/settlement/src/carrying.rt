@@ -5,7 +5,11 @@ ghost use Rattle.settlement.specs.Hour.{weights_in};
 ghost use Rattle.settlement.specs.Limits.{most_points};
 ghost use Rattle.valuation.specs.Sharing.{parts_of};
 
+use forms::MOST_AGENTS;
 use valuation::share;
+
+/// As many places as a book has agents at most: arrays, since the library allocates nothing.
+pub(crate) const PLACES: usize = MOST_AGENTS as usize;
 
 /// Points to be carried by agents, each by its weight.
 pub(crate) trait Carried {
@@ -68,7 +72,7 @@ pub(crate) fn is_uncarried<C: Carried>(carried: &C) -> bool
     ensures { let weights = weights_in (C.agents carried.now) (C.weight carried.now) in
         result ≡ (nat_lt 0 (C.points carried.now) && sum weights == 0) }
 {
-    let mut weights = [0u32; 64];
+    let mut weights = [0u32; PLACES];
     is_uncarried_by(carried, &mut weights[..carried.agents()])
 }
 
@@ -93,6 +97,6 @@ pub(crate) fn fill_parts<C: Carried>(carried: &C, parts: &mut [u64])
         parts.new ≡ parts_of (C.points carried.now) weights }
     ensures bound { C.points carried.now ≤ most_points }
 {
-    let mut weights = [0u32; 64];
+    let mut weights = [0u32; PLACES];
     fill_parts_by(carried, &mut weights[..carried.agents()], parts);
 }

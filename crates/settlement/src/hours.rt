@@ -10,7 +10,7 @@ ghost use Rattle.settlement.specs.Lines.{line_within};
 ghost use Rattle.settlement.specs.Posting.{posting_of};
 ghost use Rattle.settlement.specs.PostingFaults.{uncarried};
 
-use crate::carrying::{Carried, fill_parts, is_uncarried};
+use crate::carrying::{Carried, PLACES, fill_parts, is_uncarried};
 use crate::faults::BookFault;
 use crate::holdings::Holding;
 use crate::lines::Line;
@@ -106,7 +106,7 @@ impl CheckedPosting<'_> {
         ensures { let own = own_of self.now.agents.now (posting_of self.now.posting) in
             fresh.new ≡ entries_of own (length self.now.posting.lines.now) }
     {
-        let mut parts = [0u64; 64];
+        let mut parts = [0u64; PLACES];
         self.fill_entries_by(&mut parts[..self.posting.lines.len()], fresh);
     }
 }

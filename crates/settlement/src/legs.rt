@@ -71,7 +71,8 @@ struct HourSetting<'a, F> {
     ghost same_calendar: { stamp.calendar ≡ setting.now.calendar } by { Prim.hlevel props },
     ghost fits: { PostingFits (posting_of posting) } by { Prim.hlevel props },
     ghost agents_long: { length setting.now.agents.now ≡ length posting.lines.now },
-    ghost distributed: { distributors ≡ distributors_withdrawn setting.now.agents.now posting.lines.now },
+    ghost distributed: { distributors ≡
+        distributors_withdrawn setting.now.agents.now posting.lines.now },
 }
 
 impl<F: ContractForm> HourSetting<'_, F> {
@@ -79,7 +80,8 @@ impl<F: ContractForm> HourSetting<'_, F> {
     fn facts(&self, contract: Contract) -> Facts
         requires { PartiesKnown (length self.now.posting.lines.now) contract }
         ensures { let s = self.now.setting.now in
-            result ≡ facts_of (setting_of (F.meaning s.form.now) s) (posting_of self.now.posting) contract }
+            let posting = posting_of self.now.posting in
+            result ≡ facts_of (setting_of (F.meaning s.form.now) s) posting contract }
     {
         let seller = self.posting.lines[contract.seller as usize - 1];
         let buyer = self.posting.lines[contract.buyer as usize - 1];
@@ -99,7 +101,8 @@ impl<F: ContractForm> HourSetting<'_, F> {
         requires { let s = self.now.setting.now in
             contract_fits (setting_of (F.meaning s.form.now) s) contract ≡ true }
         ensures value { let s = self.now.setting.now in
-            result ≡ legs_of (setting_of (F.meaning s.form.now) s) (posting_of self.now.posting) contract }
+            let posting = posting_of self.now.posting in
+            result ≡ legs_of (setting_of (F.meaning s.form.now) s) posting contract }
         ensures balanced { Balanced result }
     {
         let parties = self.setting.parties(contract);
@@ -130,7 +133,8 @@ impl<F: ContractForm> HourSetting<'_, F> {
             list_all (place_fits (setting_of (F.meaning s.form.now) s)) s.contracts.now ≡ true }
         requires fresh_long { length fresh.old ≡ length self.now.posting.lines.now }
         ensures { let s = self.now.setting.now in
-            let lines = contract_line (setting_of (F.meaning s.form.now) s) (posting_of self.now.posting) in
+            let posting = posting_of self.now.posting in
+            let lines = contract_line (setting_of (F.meaning s.form.now) s) posting in
             EachGets lines fresh.old fresh.new }
     {
         for place in self.setting.contracts {

@@ -39,7 +39,8 @@ impl TryFrom<u32> for Class {
 
     ghost use Rattle.settlement.specs.Lines.{class_of};
 
-    ghost try_from_gives = { λ number result. result ≡ ok_or (class_of number) (record { number = number }) };
+    ghost try_from_gives = { λ number result.
+        result ≡ ok_or (class_of number) (record { number = number }) };
 
     fn try_from(number: u32) -> Result<Class, UnknownClass> {
         match number {

@@ -1,13 +1,15 @@
 //! Postings that come as packets.
 ghost use Rattle.std.specs.Prelude.{◌≤◌};
+ghost use Rattle.forms.specs.Limits.{most_agents};
 
 use crate::faults::LineFault;
 use crate::lines::Line;
 use crate::postings::Posting;
+use forms::MOST_AGENTS;
 use packets::{PacketLine, read_hour};
 
-/// How many lines a packet has at most.
-const MOST_LINES: usize = 64;
+/// How many lines a packet has at most: one for each agent of a book.
+const MOST_LINES: usize = MOST_AGENTS as usize;
 
 /// A posting that came as a packet: an hour, its price and its lines, raw figures, any at all.
 #[derive(Drop)]
@@ -17,7 +19,7 @@ pub struct PacketPosting {
     // An array with a count, since the library allocates nothing.
     lines: [Line; MOST_LINES],
     count: usize,
-    ghost few: { count ≤ 64 },
+    ghost few: { count ≤ most_agents },
 }
 
 /// The line of a posting that a packet's line says.

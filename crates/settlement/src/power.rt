@@ -9,7 +9,7 @@ ghost use Rattle.settlement.specs.Limits.{points_per_kw, most_month_energy, most
 ghost use Rattle.settlement.specs.Power.{power_due, power_weight, power_weights, power_uncarried, accounts_charged};
 
 use crate::agents::Agent;
-use crate::carrying::{Carried, fill_parts, is_uncarried};
+use crate::carrying::{Carried, PLACES, fill_parts, is_uncarried};
 use crate::faults::BookFault;
 use crate::holdings::{Holding, points_alone};
 use tally::{MoneyLine, Tally};
@@ -109,7 +109,7 @@ pub fn charge_power(agents: &[Agent], accounts: &mut [Holding])
     requires within { all_withdrawn accounts.old ≤ most_month_energy }
     ensures { accounts.new ≡ accounts_charged agents.now accounts.old }
 {
-    let mut parts = [0u64; 64];
+    let mut parts = [0u64; PLACES];
     let parts = &mut parts[..agents.len()];
     fill_parts(&MonthPower { agents, accounts }, parts);
     charge_parts(agents, parts, accounts);

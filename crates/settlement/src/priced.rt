@@ -67,8 +67,8 @@ impl PricedLine<'_> {
     pub(crate) fn entry(&self, caused: u64, carried: u64) -> Holding
         requires caused_within { caused ≤ most_excess }
         requires carried_within { carried ≤ most_excess }
-        ensures { let figures = figures_with self.now.price self.now.line.now (pos 0) caused carried in
-            result ≡ entry_of figures }
+        ensures { let figures = figures_with self.now.price self.now.line.now (pos 0) in
+            result ≡ entry_of (figures caused carried) }
     {
         let line = self.line;
         let earned = amount(line.injected, line.factor, self.price) as i64;

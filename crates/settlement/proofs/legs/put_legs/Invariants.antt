@@ -1,4 +1,4 @@
-use Rattle.std.proofs.Common.{◌≡◌, ℕ, List, ℤ, take}
+use Rattle.std.proofs.Common.{take}
 use Rattle.forms.specs.Parties.{legs_by_party}
 use Rattle.settlement.specs.Holdings.{EachGets}
 use Rattle.settlement.specs.Legs.{is_number, given_to}

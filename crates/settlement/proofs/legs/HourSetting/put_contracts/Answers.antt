@@ -5,7 +5,7 @@ use Rattle.forms.specs.declared.Contract.{Contract}
 use Rattle.settlement.specs.ContractFaults.{place_fits}
 use Rattle.settlement.specs.Holdings.{Holding, no_holding, with_points}
 use Rattle.settlement.specs.Legs.{is_number, given_in}
-use Rattle.settlement.specs.Posting.{Posting, posting_of}
+use Rattle.settlement.specs.Posting.{posting_of}
 use Rattle.settlement.specs.Setting.{Setting, setting_of}
 use Rattle.tally.proofs.Failing.{all_each}
 use Rattle.tally.proofs.Numbers.{int_sum_by_more}
