@@ -1,23 +1,24 @@
 -- Only what stands, asked of a book at its opening: all of it is done, and the same stands. Assumes nothing.
-use Rattle.std.proofs.Common.{◌≡◌, ℕ, zero, suc, ◌+◌, ◌-◌, ◌<◌, true, cond, not, ◌&&◌, ◌||◌, eqb, ltb, leb, List, [], ◌∷◌, ◌++◌, length, get_or, set, replicate, is_some, Some, None, Option, sym, refl, ap, ◌∙◌, subst, inl, inr, arith}
 use Rattle.std.specs.List.{list_all}
 use Rattle.std.specs.Option.{option_map}
+use Rattle.std.proofs.Common.{◌≡◌, ℕ, zero, suc, ◌+◌, ◌-◌, ◌<◌, true, cond, not, ◌&&◌, ◌||◌, eqb, ltb, leb, List, [], ◌∷◌, ◌++◌, length, get_or, set, replicate, is_some, Some, None, Option, sym, refl, ap, ◌∙◌, subst, inl, inr, arith}
 use Rattle.std.proofs.lemmas.List.{append_assoc, length_push, get_or_at, set_at}
 use Rattle.std.proofs.lemmas.List.Sorted.{IsPermutation-refl}
 use Rattle.std.proofs.lemmas.Bool.{le-leb, lt-ltb, le-ltb, eq-eqb, ne_eqb, cases_eq, cases_order, and_parts, and_from, cond-true, cond-false}
-use Rattle.forms.specs.declared.Contract.{Contract}
-use Rattle.forms.specs.Meaning.{Meaning}
-use Rattle.settlement.specs.declared.faults.BookFault.TheVariants.{MissingHour, NoPowerCarrier, ContractNumber, CoveredHour}
-use Rattle.settlement.specs.Faults.{met_if, first_met}
-use Rattle.settlement.specs.Power.{power_uncarried}
 use Rattle.tally.specs.Failing.{first_failing}
 use Rattle.tally.proofs.Failing.{first_failing_same, first_failing_none}
+use Rattle.forms.specs.declared.Contract.{Contract}
+use Rattle.forms.specs.Meaning.{Meaning}
 use Rattle.forms.specs.Limits.{most_contracts}
-use Rattle.settlement.specs.Posting.{Posting}
-use Rattle.settlement.specs.ContractFaults.{contract_fault, contract_fits, place_fits}
-use Rattle.standing.specs.Requests.{Opening, hours_in, Request, posting, entering, closing, statement}
+use Rattle.settlement.specs.declared.faults.BookFault.TheVariants.{MissingHour, NoPowerCarrier, ContractNumber, CoveredHour}
 use Rattle.settlement.specs.declared.states.State.{State}
 use Rattle.settlement.specs.declared.states.State.TheVariants.{Open, Closed}
+use Rattle.settlement.specs.Faults.{met_if, first_met}
+use Rattle.settlement.specs.Power.{power_uncarried}
+use Rattle.settlement.specs.Posting.{Posting}
+use Rattle.settlement.specs.ContractFaults.{contract_fault, contract_fits, place_fits}
+use Rattle.settlement.proofs.FaultTables.{none_is}
+use Rattle.standing.specs.Requests.{Opening, hours_in, Request, posting, entering, closing, statement}
 use Rattle.standing.specs.Standing.{Standing, nothing_stands, standing_with, stands, setting_in}
 use Rattle.standing.specs.Faults.{withdrawn_of, closing_fault, fault_met}
 use Rattle.standing.specs.Turns.{was_done, can_ask, manner, changed, left_by, next, standing_after, after}
@@ -26,7 +27,6 @@ use Rattle.standing.specs.Only.{entries_of, posting_at, postings_of, closing_of,
 use Rattle.standing.specs.Replies.{done, told_as, reply, replies_from, is_done}
 use Rattle.standing.proofs.Turns.{manner_asked}
 use Rattle.standing.proofs.Postings.{withdrawn_same}
-use Rattle.settlement.proofs.FaultTables.{none_is}
 use Rattle.standing.proofs.Sound.{Sound}
 
 -- a closing meets the same fault where the same stands in the hours of the month

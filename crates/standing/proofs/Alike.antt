@@ -1,19 +1,19 @@
 -- Two forms of the same meaning give the same answers, whole, and leave the same standing. Assumes nothing.
-use Rattle.std.proofs.Common.{◌≡◌, ℕ, ◌-◌, Bool, true, false, cond, not, ◌&&◌, List, [], ◌∷◌, Option, sym, refl, ap, ◌∙◌}
 use Rattle.std.specs.List.{list_all}
+use Rattle.std.proofs.Common.{◌≡◌, ℕ, ◌-◌, Bool, true, false, cond, not, ◌&&◌, List, [], ◌∷◌, Option, sym, refl, ap, ◌∙◌}
 use Rattle.std.proofs.lemmas.Bool.{and_parts}
 use Rattle.std.proofs.lemmas.List.Sorted.{IsPermutation-refl}
+use Rattle.tally.proofs.Numbers.{map_counting_same, int_lawful}
+use Rattle.tally.proofs.Sums.{total_over_same}
 use Rattle.forms.specs.declared.Contract.{Contract}
+use Rattle.forms.specs.declared.Parties.{Parties}
 use Rattle.forms.specs.Meaning.{Meaning, Keeps, Alike}
 use Rattle.forms.specs.Terms.{number_fits, numbers_apart, party_fits, parties_fit, figures_fit, hours_fit}
-use Rattle.forms.specs.declared.Parties.{Parties}
+use Rattle.forms.specs.Parties.{party_numbers, members_of}
 use Rattle.settlement.specs.declared.faults.BookFault.{BookFault}
 use Rattle.settlement.specs.declared.faults.BookFault.TheVariants.{ContractTerms}
 use Rattle.settlement.specs.ContractFaults.{parties_of, in_book, taken_fault, covered_fault, contract_fault}
 use Rattle.settlement.specs.Faults.{met_if, first_met}
-use Rattle.tally.proofs.Numbers.{map_counting_same, int_lawful}
-use Rattle.forms.specs.Parties.{party_numbers, members_of}
-use Rattle.tally.proofs.Sums.{total_over_same}
 use Rattle.standing.specs.Law.{Book, Ran}
 use Rattle.standing.specs.Requests.{Opening, count_in, hours_in, Request, entering, statement}
 use Rattle.standing.specs.Standing.{Standing, nothing_stands, stands, setting_in}

@@ -1,32 +1,26 @@
 -- All balances together are minus the residue of the standing hours. Assumes nothing.
-use Rattle.std.proofs.Common.{◌≡◌, ℕ, ◌+◌, ◌<◌, ◌≤◌, false, List, [], ◌∷◌, ℤ, pos, ◌+ℤ◌, neg_ℤ, Option, sym, refl, ap, ◌∙◌, arith}
-use Rattle.std.specs.Option.{option_map}
+use Rattle.std.proofs.Common.{◌≡◌, ℕ, ◌+◌, ◌<◌, ◌≤◌, false, ℤ, pos, ◌+ℤ◌, neg_ℤ, sym, refl, ap, ◌∙◌, arith}
 use Rattle.std.proofs.lemmas.Int.{ints}
-use Rattle.forms.specs.Meaning.{Meaning, Keeps}
-use Rattle.settlement.specs.declared.faults.BookFault.{BookFault}
-use Rattle.settlement.specs.declared.faults.BookFault.TheVariants.{MissingHour, NoPowerCarrier}
-use Rattle.settlement.specs.Faults.{met_if}
-use Rattle.settlement.specs.Power.{power_uncarried, power_line}
-use Rattle.tally.specs.Failing.{first_failing}
-use Rattle.settlement.proofs.FaultTables.{unmet}
-use Rattle.tally.specs.Lines.{no_lines, lines_joined, alone, balance_of}
 use Rattle.tally.specs.declared.money.MoneyLine.{MoneyLine}
 use Rattle.tally.specs.declared.money.MoneyLine.TheVariants.{Market, Power}
+use Rattle.tally.specs.Lines.{no_lines, lines_joined, alone, balance_of}
 use Rattle.tally.specs.Sums.{int_sum_over, lines_over, sum_to_ℤ}
-use Rattle.tally.proofs.Sums.{total_over_same, total_over_map, total_over_none, total_over_joined, total_over_swapped}
 use Rattle.tally.specs.LinesLaws.{lines_lawful}
+use Rattle.tally.proofs.Sums.{total_over_same, total_over_map, total_over_none, total_over_joined, total_over_swapped}
 use Rattle.tally.proofs.Lines.{balance_of-over, alone-none, alone-joined}
 use Rattle.tally.proofs.Numbers.{int_sum_over_neg, int_lawful}
-use Rattle.standing.proofs.Accepted.{at_standing}
-use Rattle.settlement.proofs.Even.{even, even_lines}
-use Rattle.standing.proofs.Power.{power_together}
-use Rattle.standing.specs.Requests.{Opening, count_in, hours_in}
+use Rattle.forms.specs.Meaning.{Meaning, Keeps}
 use Rattle.settlement.specs.declared.states.State.{State}
 use Rattle.settlement.specs.declared.states.State.TheVariants.{Open, Closed}
-use Rattle.standing.specs.Standing.{Standing, stands, setting_in}
-use Rattle.standing.specs.Faults.{withdrawn_of}
+use Rattle.settlement.specs.Power.{power_uncarried, power_line}
+use Rattle.settlement.proofs.FaultTables.{unmet, first_met_none}
+use Rattle.settlement.proofs.Even.{even, even_lines}
+use Rattle.standing.specs.Requests.{Opening, count_in, hours_in}
+use Rattle.standing.specs.Standing.{Standing, setting_in}
+use Rattle.standing.specs.Faults.{withdrawn_of, closing_faults}
 use Rattle.standing.specs.Worked.{figures_from, figures_at, lines_between, power_in, power_of, agent_lines, balances_after, residue_from, residue_between, residue_after}
-use Rattle.settlement.proofs.FaultTables.{first_met_none}
+use Rattle.standing.proofs.Accepted.{at_standing}
+use Rattle.standing.proofs.Power.{power_together}
 use Rattle.standing.proofs.Sound.{Opened, Sound}
 
 -- ---- sums of lines
@@ -41,10 +35,7 @@ alone_over line start n f =
 module _ (form : Meaning) (keeps : Keeps form) (o : Opening) (opened : Opened o) (s : Standing) (sound : Sound form o s) where
   -- a closed month could be closed, and so something carries the power that is due
   pub power_carried : s.state ≡ Closed → power_uncarried o.agents (withdrawn_of o s) ≡ false
-  power_carried is =
-      let rows : List (Option BookFault) =
-      option_map (λ hour. MissingHour hour) (first_failing (stands s) 0 (hours_in o)) ∷ met_if (power_uncarried o.agents (withdrawn_of o s)) NoPowerCarrier ∷ [] in
-      unmet _ _ (sym (first_met_none rows (sound.closable is)).1.0)
+  power_carried is = unmet _ _ (sym (first_met_none (closing_faults o s) (sound.closable is)).1.0)
 
   -- so all power lines come to nothing, also while the month is open, when each is 0
   pub powers_together : sum_to_ℤ (count_in o) (power_of o s) ≡ pos 0

@@ -1,34 +1,34 @@
 -- Nothing that is worked from what stands is too large for memory. Assumes nothing.
 use Rattle.std.proofs.Common.{◌≡◌, ℕ, ◌*◌, ◌<◌, ◌≤◌, ℤ, pos, nat_abs, Some, None, Option, refl, ◌∙◌, subst, arith, w64, SFits}
 use Rattle.std.proofs.lemmas.Int.{ints}
-use Rattle.forms.specs.Meaning.{Meaning, Keeps}
-use Rattle.valuation.proofs.Amounts.{amount_of_le}
-use Rattle.settlement.specs.Posting.{line_at, Posting}
-use Rattle.forms.specs.Limits.{most_leg, most_agents}
-use Rattle.valuation.specs.Limits.{most_energy}
-use Rattle.settlement.specs.Limits.{most_month_energy, points_per_kw, most_power}
-use Rattle.settlement.specs.Power.{power_line}
-use Rattle.settlement.proofs.Bounds.{Within, excess_le, caused_le, carried_le}
-use Rattle.tally.proofs.Numbers.{fits_abs, int_lawful, nat_lawful, nat_sum_over_le}
-use Rattle.settlement.specs.Setting.{Setting}
-use Rattle.tally.specs.Lines.{LinesWithin, line_on, no_lines}
 use Rattle.tally.specs.declared.money.MoneyLine.{MoneyLine}
 use Rattle.tally.specs.declared.money.MoneyLine.TheVariants.{Market, Contract as Contracted, Overcost, Power}
-use Rattle.settlement.specs.Legs.{hour_of, contract_line}
+use Rattle.tally.specs.Lines.{LinesWithin, line_on, no_lines}
 use Rattle.tally.specs.Sums.{sum_to}
+use Rattle.tally.proofs.Numbers.{fits_abs, int_lawful, nat_lawful, nat_sum_over_le}
 use Rattle.tally.proofs.Sums.{total_over_none, total_over_swapped}
 use Rattle.tally.proofs.Lines.{lines_over_within, line_on-over, balance_of_within}
-use Rattle.settlement.proofs.Checked.{Checked}
-use Rattle.standing.proofs.Accepted.{line_within_at, at_standing}
-use Rattle.standing.proofs.Power.{power_line_le}
-use Rattle.standing.specs.Requests.{Opening, count_in, hours_in}
+use Rattle.valuation.specs.Limits.{most_energy}
+use Rattle.valuation.proofs.Amounts.{amount_of_le}
+use Rattle.forms.specs.Meaning.{Meaning, Keeps}
+use Rattle.forms.specs.Limits.{most_leg, most_agents}
 use Rattle.settlement.specs.declared.states.State.{State}
 use Rattle.settlement.specs.declared.states.State.TheVariants.{Open, Closed}
+use Rattle.settlement.specs.Posting.{line_at, Posting}
+use Rattle.settlement.specs.Limits.{most_month_energy, points_per_kw, most_power}
+use Rattle.settlement.specs.Power.{power_line}
+use Rattle.settlement.specs.Setting.{Setting}
+use Rattle.settlement.specs.Legs.{hour_of, contract_line}
+use Rattle.settlement.proofs.Bounds.{Within, excess_le, caused_le, carried_le}
+use Rattle.settlement.proofs.Checked.{Checked}
+use Rattle.settlement.proofs.ContractLines.{contract_line_abs}
+use Rattle.standing.specs.Requests.{Opening, count_in, hours_in}
 use Rattle.standing.specs.Standing.{Standing, setting_in}
 use Rattle.standing.specs.Faults.{withdrawn_in, withdrawn_of}
 use Rattle.standing.specs.Limits.{most_line_of_an_hour, most_line_of_a_month, most_balance}
 use Rattle.standing.specs.Worked.{figures_from, figures_at, lines_between, power_in, power_of, agent_lines, agent_balance, injected_in, injected_of}
-use Rattle.settlement.proofs.ContractLines.{contract_line_abs}
+use Rattle.standing.proofs.Accepted.{line_within_at, at_standing}
+use Rattle.standing.proofs.Power.{power_line_le}
 use Rattle.standing.proofs.Sound.{Opened, Sound}
 
 -- ---- the energies of an hour

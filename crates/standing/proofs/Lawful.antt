@@ -1,8 +1,8 @@
 -- The law over whole runs, from three books that were run as the rules say. Assumes nothing.
-use Rattle.std.proofs.Common.{◌≡◌, List, map, ℤ, neg_ℤ, sym, refl, ap, ◌∙◌}
 use Rattle.std.specs.List.{range_with_len, list_all}
-use Rattle.forms.specs.Meaning.{Meaning, Keeps, Alike}
+use Rattle.std.proofs.Common.{◌≡◌, List, map, ℤ, neg_ℤ, sym, refl, ap, ◌∙◌}
 use Rattle.tally.proofs.Numbers.{map_counting_same}
+use Rattle.forms.specs.Meaning.{Meaning, Keeps, Alike}
 use Rattle.standing.specs.Law.{Book, Ran, Settled, unspoilt}
 use Rattle.standing.specs.Requests.{Opening, count_in, Request, without_contracts, told_without}
 use Rattle.standing.specs.Standing.{Standing, nothing_stands}

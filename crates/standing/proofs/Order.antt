@@ -1,20 +1,20 @@
 -- What leaves the same standing gives every agent the same statement, by whichever form of the same meaning. Assumes nothing.
 use Rattle.std.proofs.Common.{◌≡◌, ℕ, ◌<◌, List, Some, sym, refl, ap, ◌∙◌, arith}
+use Rattle.tally.specs.LinesLaws.{lines_lawful}
+use Rattle.tally.proofs.Sums.{total_over_same}
 use Rattle.forms.specs.Meaning.{Meaning, Keeps, Alike}
 use Rattle.settlement.specs.declared.agents.Agent.{Agent}
 use Rattle.settlement.specs.Posting.{line_at, Posting}
 use Rattle.settlement.specs.Power.{power_line}
 use Rattle.settlement.specs.Legs.{is_number}
 use Rattle.settlement.specs.Hour.{caused_sum, carried_by, figures_with}
-use Rattle.tally.proofs.Sums.{total_over_same}
-use Rattle.tally.specs.LinesLaws.{lines_lawful}
 use Rattle.settlement.proofs.Checked.{Checked}
-use Rattle.standing.proofs.Accepted.{at_standing}
 use Rattle.standing.specs.Requests.{Opening, hours_in}
 use Rattle.standing.specs.Standing.{Standing, setting_in}
 use Rattle.standing.specs.Faults.{withdrawn_of}
 use Rattle.standing.specs.Level.{Level}
 use Rattle.standing.specs.Worked.{figures_from, figures_at, power_in, power_of, worked}
+use Rattle.standing.proofs.Accepted.{at_standing}
 use Rattle.standing.proofs.Legs.{contract_points_level}
 use Rattle.standing.proofs.Postings.{withdrawn_same, worked_same}
 use Rattle.standing.proofs.Sound.{Opened, Sound}

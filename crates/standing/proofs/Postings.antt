@@ -1,13 +1,13 @@
 -- Where the same postings stand in two books, energies, peaks and residues are the same. Assumes nothing.
 use Rattle.std.proofs.Common.{◌≡◌, ℕ, ◌<◌, ℤ, ap, arith}
 use Rattle.tally.specs.declared.peak.Peak.{Peak}
+use Rattle.tally.specs.declared.money.MoneyLine.TheVariants.{Power}
 use Rattle.tally.specs.Peak.{peak_of}
 use Rattle.tally.specs.PeakLaws.{peak_lawful}
-use Rattle.forms.specs.Meaning.{Meaning}
 use Rattle.tally.specs.Lines.{Lines, lines_joined, alone, balance_of}
-use Rattle.tally.specs.declared.money.MoneyLine.TheVariants.{Power}
 use Rattle.tally.proofs.Sums.{total_over_same}
 use Rattle.tally.proofs.Numbers.{nat_lawful}
+use Rattle.forms.specs.Meaning.{Meaning}
 use Rattle.standing.specs.Requests.{Opening, hours_in}
 use Rattle.standing.specs.Standing.{Standing}
 use Rattle.standing.specs.Faults.{withdrawn_in, withdrawn_of}

@@ -1,15 +1,15 @@
 -- Power lines: what they come to together, and their size. Assumes nothing.
-use Rattle.std.proofs.Common.{◌≡◌, ℕ, ◌*◌, ◌<◌, ◌≤◌, true, false, ◌||◌, eqb, leb, is_some, List, length, pos, nat_abs, subst, arith}
 use Rattle.std.specs.List.{list_all}
+use Rattle.std.proofs.Common.{◌≡◌, ℕ, ◌*◌, ◌<◌, ◌≤◌, true, false, ◌||◌, eqb, leb, is_some, List, length, pos, nat_abs, subst, arith}
 use Rattle.std.proofs.lemmas.Bool.{and_parts, leb-true}
 use Rattle.std.proofs.lemmas.List.FromFn.{length-map-range_with_len}
 use Rattle.std.proofs.lemmas.Int.{ints}
 use Rattle.tally.specs.Sums.{sum_to, sum_to_ℤ}
 use Rattle.tally.proofs.Failing.{all_each}
 use Rattle.tally.proofs.Numbers.{sum_to_le, sum_to_ℤ_less}
+use Rattle.valuation.specs.Limits.{most_energy}
 use Rattle.forms.specs.Limits.{most_agents}
 use Rattle.forms.specs.Roles.{role_of, generates, has_role}
-use Rattle.valuation.specs.Limits.{most_energy}
 use Rattle.settlement.specs.declared.agents.Agent.{Agent}
 use Rattle.settlement.specs.Agents.{agent_fits, agent_at, no_agent}
 use Rattle.settlement.specs.Limits.{most_power, points_per_kw}

@@ -1,16 +1,16 @@
 -- What an accepted opening and what stands after any requests are known to be. Assumes nothing.
-use Rattle.std.proofs.Common.{◌≡◌, ℕ, ◌<◌, ◌≤◌, true, length, Some, None}
 use Rattle.std.specs.List.{list_all}
-use Rattle.forms.specs.Meaning.{Meaning}
+use Rattle.std.proofs.Common.{◌≡◌, ℕ, ◌<◌, ◌≤◌, true, length, Some, None}
 use Rattle.calendar.specs.Calendar.{calendar_fits}
 use Rattle.calendar.specs.Limits.{most_days}
+use Rattle.forms.specs.Meaning.{Meaning}
 use Rattle.forms.specs.Limits.{most_agents, most_contracts}
+use Rattle.settlement.specs.declared.states.State.TheVariants.{Closed}
 use Rattle.settlement.specs.Agents.{agent_fits}
 use Rattle.settlement.specs.Posting.{Posting}
 use Rattle.settlement.specs.PostingFaults.{posting_fault}
 use Rattle.settlement.specs.ContractFaults.{place_fits}
 use Rattle.standing.specs.Requests.{Opening, count_in, hours_in}
-use Rattle.settlement.specs.declared.states.State.TheVariants.{Closed}
 use Rattle.standing.specs.Standing.{Standing, nothing_stands, setting_in}
 use Rattle.standing.specs.Faults.{closing_fault}
 

@@ -1,18 +1,18 @@
 -- What stands after any requests is sound: the faults let nothing else in. Assumes nothing.
-use Rattle.std.proofs.Common.{◌≡◌, ℕ, zero, suc, ◌-◌, ◌<◌, Bool, true, false, cond, eqb, List, [], ◌∷◌, set, is_none, Some, None, Option, sym, refl, ap, ◌∙◌, subst}
 use Rattle.std.specs.List.{list_all}
+use Rattle.std.proofs.Common.{◌≡◌, ℕ, zero, suc, ◌-◌, ◌<◌, Bool, true, false, cond, eqb, List, [], ◌∷◌, set, is_none, Some, None, Option, sym, refl, ap, ◌∙◌, subst}
 use Rattle.std.proofs.lemmas.List.{length-set}
 use Rattle.std.proofs.lemmas.Bool.{false≢true, eqb-true, and_parts, and_from}
 use Rattle.forms.specs.declared.Contract.{Contract}
 use Rattle.forms.specs.Meaning.{Meaning}
+use Rattle.settlement.specs.declared.states.State.TheVariants.{Closed}
 use Rattle.settlement.specs.ContractFaults.{taken_fault, covered_fault, contract_fault, place_fits}
 use Rattle.settlement.specs.Posting.{Posting}
+use Rattle.settlement.proofs.FaultTables.{first_met_none}
 use Rattle.standing.specs.Requests.{Opening, hours_in, Request, posting, withdrawal, entering, cancelling, closing}
-use Rattle.settlement.specs.declared.states.State.TheVariants.{Closed}
 use Rattle.standing.specs.Standing.{Standing, nothing_stands, standing_with, placed_with, stands, setting_in}
 use Rattle.standing.specs.Faults.{fault_met}
 use Rattle.standing.specs.Turns.{can_ask, changed, next, standing_after, after}
-use Rattle.settlement.proofs.FaultTables.{first_met_none}
 use Rattle.standing.proofs.Turns.{next_both}
 use Rattle.standing.proofs.Sound.{MayStand, Sound}
 

@@ -1,18 +1,18 @@
 -- An agent that is party to none of the standing contracts has the same statement without the contracts. Assumes nothing.
-use Rattle.std.proofs.Common.{◌≡◌, ℕ, ◌<◌, Bool, true, false, cond, not, List, [], ◌∷◌, ℤ, pos, ◌+ℤ◌, Some, None, Option, sym, refl, ap, ◌∙◌}
 use Rattle.std.specs.List.{zip, list_any}
+use Rattle.std.proofs.Common.{◌≡◌, ℕ, ◌<◌, Bool, true, false, cond, not, List, [], ◌∷◌, ℤ, pos, ◌+ℤ◌, Some, None, Option, sym, refl, ap, ◌∙◌}
 use Rattle.std.proofs.lemmas.Bool.{or_parts, not-true}
+use Rattle.tally.specs.LinesLaws.{lines_lawful}
+use Rattle.tally.proofs.Sums.{total_over_same, All-passing}
+use Rattle.tally.proofs.Numbers.{int_sum_by_zero}
 use Rattle.forms.specs.declared.Contract.{Contract}
 use Rattle.forms.specs.Meaning.{Meaning}
+use Rattle.forms.specs.Parties.{party_numbers, points_of}
 use Rattle.settlement.specs.ContractFaults.{covers}
 use Rattle.settlement.specs.Posting.{line_at, Posting}
 use Rattle.settlement.specs.Setting.{Setting}
-use Rattle.forms.specs.Parties.{party_numbers, points_of}
 use Rattle.settlement.specs.Legs.{is_number, given_to, given_in, legs_of, contract_line}
 use Rattle.settlement.specs.Hour.{caused_sum, carried_by, figures_with}
-use Rattle.tally.proofs.Sums.{total_over_same, All-passing}
-use Rattle.tally.specs.LinesLaws.{lines_lawful}
-use Rattle.tally.proofs.Numbers.{int_sum_by_zero}
 use Rattle.standing.specs.Requests.{Opening, count_in, hours_in, Request, without_contracts}
 use Rattle.standing.specs.Standing.{Standing, setting_in}
 use Rattle.standing.specs.Turns.{after}

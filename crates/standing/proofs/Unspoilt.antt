@@ -1,7 +1,7 @@
 -- No request is refused for a stored figure outside its limit: no table of faults has that one. Assumes nothing.
-use Rattle.std.proofs.Common.{◌≡◌, ℕ, Bool, true, false, cond, not, ◌||◌, eqb, ltb, List, [], ◌∷◌, Some, None, Option, refl}
 use Rattle.std.specs.List.{list_all}
 use Rattle.std.specs.Option.{option_map}
+use Rattle.std.proofs.Common.{◌≡◌, ℕ, Bool, true, false, cond, not, ◌||◌, eqb, ltb, List, [], ◌∷◌, Some, None, Option, refl}
 use Rattle.std.proofs.lemmas.Bool.{and_from}
 use Rattle.packets.specs.declared.faults.ByteFault.{ByteFault}
 use Rattle.packets.specs.declared.faults.ByteFault.TheVariants.{WrongSize, Malformed}
@@ -14,12 +14,10 @@ use Rattle.settlement.specs.declared.faults.LineFault.TheVariants.{Packet, HourO
 use Rattle.settlement.specs.ContractFaults.{taken_fault, vacant_fault, covered_fault, covered_in, place_at, contract_faults, contract_fault}
 use Rattle.settlement.specs.Faults.{number_of, met_if, first_met, of_posting}
 use Rattle.settlement.specs.PostingFaults.{hour_fault, posting_faults}
-use Rattle.settlement.specs.Power.{power_uncarried}
-use Rattle.tally.specs.Failing.{first_failing}
 use Rattle.standing.specs.Law.{unspoilt}
 use Rattle.standing.specs.Requests.{Opening, count_in, hours_in, Request, posting, unread, withdrawal, entering, cancelling, closing, statement}
 use Rattle.standing.specs.Standing.{Standing, stands, setting_in}
-use Rattle.standing.specs.Faults.{withdrawn_of, fault_met}
+use Rattle.standing.specs.Faults.{closing_faults, fault_met}
 use Rattle.standing.specs.Turns.{was_skipped, can_ask, judged, next}
 use Rattle.standing.specs.Replies.{done, told_as, replies_from}
 
@@ -88,7 +86,7 @@ module _ (form : Meaning) (o : Opening) where
       let place = place_at s.places number in
       first_of (vacant_fault s.places number ∷ covered_in (stands s) place ∷ []) (met _ ContractNumber (record { is = refl }), (covered_in_lem (stands s) place, tt))
   fault_fine s closing =
-      first_of (option_map (λ hour. MissingHour hour) (first_failing (stands s) 0 (hours_in o)) ∷ met_if (power_uncarried o.agents (withdrawn_of o s)) NoPowerCarrier ∷ [])
+      first_of (closing_faults o s)
       (told_of (λ hour. MissingHour hour) _ (λ hour. record { is = refl }), (met _ NoPowerCarrier (record { is = refl }), tt))
   fault_fine s (statement agent) = met (eqb agent 0 || ltb (count_in o) agent) OutsideBook (record { is = refl })
 

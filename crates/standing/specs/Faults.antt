@@ -1,6 +1,8 @@
 -- The fault that a request meets against what stands. Assumes nothing.
-use Rattle.std.specs.Prelude.{ℕ, not, ◌||◌, [], ◌∷◌, Some, None, Option, ◌==◌, nat_lt}
+use Rattle.std.specs.Prelude.{ℕ, not, ◌||◌, List, [], ◌∷◌, Some, None, Option, ◌==◌, nat_lt}
 use Rattle.std.specs.Option.{option_map}
+use Rattle.tally.specs.Failing.{first_failing}
+use Rattle.tally.specs.Sums.{sum_to}
 use Rattle.forms.specs.Meaning.{Meaning}
 use Rattle.settlement.specs.declared.faults.BookFault.{BookFault}
 use Rattle.settlement.specs.declared.faults.BookFault.TheVariants.{Posting as PostingFault, OutsideBook, FreeHour, MissingHour, NoPowerCarrier}
@@ -10,8 +12,6 @@ use Rattle.settlement.specs.Faults.{met_if, first_met, of_posting}
 use Rattle.settlement.specs.Posting.{line_at, Posting}
 use Rattle.settlement.specs.PostingFaults.{hour_fault, posting_fault}
 use Rattle.settlement.specs.Power.{power_uncarried}
-use Rattle.tally.specs.Failing.{first_failing}
-use Rattle.tally.specs.Sums.{sum_to}
 use Rattle.standing.specs.Requests.{Opening, count_in, hours_in, Request, posting, unread, withdrawal, entering, cancelling, closing, statement}
 use Rattle.standing.specs.Standing.{Standing, stands, setting_in}
 
@@ -24,11 +24,15 @@ withdrawn_in i (Some p) = (line_at p.lines i).withdrawn
 abbrev pub withdrawn_of : Opening → Standing → ℕ → ℕ
 withdrawn_of o s i = sum_to (hours_in o) (λ hour. withdrawn_in i (s.posted hour))
 
--- the fault of a closing: an hour is missing, or nothing carries the power that is due
+-- the faults of a closing: an hour is missing, or nothing carries the power that is due
+abbrev pub closing_faults : Opening → Standing → List (Option BookFault)
+closing_faults o s =
+    option_map (λ hour. MissingHour hour) (first_failing (stands s) 0 (hours_in o))
+    ∷ met_if (power_uncarried o.agents (withdrawn_of o s)) NoPowerCarrier ∷ []
+
+-- the first of them
 abbrev pub closing_fault : Opening → Standing → Option BookFault
-closing_fault o s =
-    first_met (option_map (λ hour. MissingHour hour) (first_failing (stands s) 0 (hours_in o))
-    ∷ met_if (power_uncarried o.agents (withdrawn_of o s)) NoPowerCarrier ∷ [])
+closing_fault o s = first_met (closing_faults o s)
 
 -- the fault that a request meets, the smallest number first
 abbrev pub fault_met : Meaning → Opening → Standing → Request → Option BookFault

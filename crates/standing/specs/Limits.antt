@@ -1,7 +1,7 @@
 -- How large a line and a balance can be at most, in points. Assumes nothing.
 use Rattle.std.specs.Prelude.{ℕ, ◌*◌}
-use Rattle.forms.specs.Limits.{most_leg, most_contracts}
 use Rattle.calendar.specs.Limits.{most_hours}
+use Rattle.forms.specs.Limits.{most_leg, most_contracts}
 
 -- a line of an hour: a leg of each contract, which is more than any hour gives on another line
 abbrev pub most_line_of_an_hour : ℕ

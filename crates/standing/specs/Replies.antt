@@ -3,7 +3,7 @@ use Rattle.std.specs.Prelude.{◌-◌, Bool, true, false, List, [], ◌∷◌}
 use Rattle.forms.specs.Meaning.{Meaning}
 use Rattle.settlement.specs.declared.faults.BookFault.{BookFault}
 use Rattle.standing.specs.Requests.{Opening, Request, statement}
-use Rattle.standing.specs.Standing.{Standing}
+use Rattle.standing.specs.Standing.{Standing, nothing_stands}
 use Rattle.standing.specs.Turns.{Manner, was_done, was_refused, was_skipped, manner, next}
 use Rattle.standing.specs.Worked.{Worked, worked}
 
@@ -25,6 +25,7 @@ told_as form o s r was_done = done form o s r
 told_as form o s r (was_refused fault) = refused fault
 told_as form o s r was_skipped = skipped
 
+-- so a request is told by the manner in which it is answered
 abbrev pub reply : Meaning → Opening → Standing → Request → Reply
 reply form o s r = told_as form o s r (manner form o s r)
 
@@ -32,6 +33,10 @@ reply form o s r = told_as form o s r (manner form o s r)
 abbrev pub replies_from : Meaning → Opening → Standing → List Request → List Reply
 replies_from form o s [] = []
 replies_from form o s (r ∷ rs) = reply form o s r ∷ replies_from form o (next form o s r) rs
+
+-- and from an opening on
+abbrev pub replies_to : Meaning → Opening → List Request → List Reply
+replies_to form o requests = replies_from form o nothing_stands requests
 
 -- how a request was answered, whatever a statement says
 abbrev pub manner_of : Reply → Manner

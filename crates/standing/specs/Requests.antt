@@ -1,11 +1,11 @@
 -- A book's opening, and what its host asks of it, as the subject has them. Assumes nothing.
 use Rattle.std.specs.Prelude.{ℕ, Bool, true, false, if◌then◌else◌, List, [], ◌∷◌, length}
 use Rattle.calendar.specs.declared.calendars.Calendar.{Calendar}
+use Rattle.calendar.specs.Limits.{hours_of}
 use Rattle.packets.specs.declared.faults.ByteFault.{ByteFault}
 use Rattle.forms.specs.declared.Contract.{Contract}
 use Rattle.settlement.specs.declared.agents.Agent.{Agent}
 use Rattle.settlement.specs.Posting.{Posting}
-use Rattle.calendar.specs.Limits.{hours_of}
 
 -- what a book is opened with: its agents, and the days of its month, which follow a calendar
 pub record Opening : Type 0 where
@@ -21,9 +21,9 @@ count_in o = length o.agents
 abbrev pub hours_in : Opening → ℕ
 hours_in o = hours_of o.days
 
--- what a host asks of a book: post an hour, or correct it, from lines or from a packet that says them; post bytes that are no packet, with what is
--- wrong in them; withdraw an hour; enter a contract under a number, or cancel it; close the month; give an agent's statement, provisional while
--- the month is open and final once it is closed
+-- what a host asks of a book: post an hour, or correct it, from lines or from a packet that says them; post bytes that are no
+-- packet, with what is wrong in them; withdraw an hour; enter a contract under a number, or cancel it; close the month; give an
+-- agent's statement, provisional while the month is open and final once it is closed
 pub data Request : Type 0 where
   posting : Posting → Request
   unread : ByteFault → Request

@@ -3,10 +3,10 @@ use Rattle.std.specs.Prelude.{ℕ, ◌-◌, List, replicate, is_some, None, Opti
 use Rattle.forms.specs.declared.Contract.{Contract}
 use Rattle.forms.specs.Meaning.{Meaning}
 use Rattle.forms.specs.Limits.{most_contracts}
-use Rattle.settlement.specs.Posting.{Posting}
-use Rattle.settlement.specs.Setting.{Setting}
 use Rattle.settlement.specs.declared.states.State.{State}
 use Rattle.settlement.specs.declared.states.State.TheVariants.{Open}
+use Rattle.settlement.specs.Posting.{Posting}
+use Rattle.settlement.specs.Setting.{Setting}
 use Rattle.standing.specs.Requests.{Opening}
 
 -- what stands: at each hour a posting, or none; in each place a contract, or none; and the month is open or closed

@@ -2,9 +2,9 @@
 use Rattle.std.specs.Prelude.{Bool, true, false, if◌then◌else◌, List, [], ◌∷◌, Some, None, Option}
 use Rattle.forms.specs.Meaning.{Meaning}
 use Rattle.settlement.specs.declared.faults.BookFault.{BookFault}
-use Rattle.standing.specs.Requests.{Opening, Request, posting, withdrawal, entering, cancelling, closing, statement}
 use Rattle.settlement.specs.declared.states.State.{State}
 use Rattle.settlement.specs.declared.states.State.TheVariants.{Open, Closed}
+use Rattle.standing.specs.Requests.{Opening, Request, posting, withdrawal, entering, cancelling, closing, statement}
 use Rattle.standing.specs.Standing.{Standing, nothing_stands, standing_with, placed_with}
 use Rattle.standing.specs.Faults.{fault_met}
 
@@ -14,7 +14,7 @@ can_ask Open _ = true
 can_ask Closed (statement agent) = true
 can_ask Closed _ = false
 
--- the manner in which a request is answered: it is done, refused for a fault, or skipped, where there is no way to ask it
+-- the manner in which a request is answered: it is done, or refused for a fault, or skipped
 pub data Manner : Type 0 where
   was_done : Manner
   was_refused : BookFault → Manner
@@ -25,11 +25,12 @@ abbrev pub judged : Option BookFault → Manner
 judged None = was_done
 judged (Some fault) = was_refused fault
 
+-- what there is no way to ask is skipped
 abbrev pub manner : Meaning → Opening → Standing → Request → Manner
 manner form o s r = if can_ask s.state r then judged (fault_met form o s r) else was_skipped
 
--- what a request changes that is done: a posting stands at its hour, in the place of one that stood there; a withdrawal leaves the hour free; a
--- contract stands from its entry to its cancelling; a closing closes the month; any other changes nothing
+-- what a request changes that is done: a posting stands at its hour, in the place of one that stood there; a withdrawal leaves
+-- the hour free; a contract stands from its entry to its cancelling; a closing closes the month; any other changes nothing
 abbrev pub changed : Request → Standing → Standing
 changed (posting p) s = standing_with p.hour (Some p) s
 changed (withdrawal hour) s = standing_with hour None s
@@ -43,13 +44,15 @@ abbrev pub left_by : Manner → Request → Standing → Standing
 left_by was_done r s = changed r s
 left_by _ r s = s
 
+-- what stands after a request
 abbrev pub next : Meaning → Opening → Standing → Request → Standing
 next form o s r = left_by (manner form o s r) r s
 
--- what stands after a list of requests
+-- after a list of them
 abbrev pub standing_after : Meaning → Opening → Standing → List Request → Standing
 standing_after form o s [] = s
 standing_after form o s (r ∷ rs) = standing_after form o (next form o s r) rs
 
+-- and after a list of them from an opening on
 abbrev pub after : Meaning → Opening → List Request → Standing
 after form o requests = standing_after form o nothing_stands requests

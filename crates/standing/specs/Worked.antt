@@ -1,22 +1,23 @@
 -- The statement of an agent, worked from what stands as whole numbers. Agents are counted from 0. Assumes nothing.
-use Rattle.std.specs.Prelude.{ℕ, ℤ, pos, Some, None, Option}
+use Rattle.std.specs.Prelude.{ℕ, List, ℤ, pos, Some, None, Option}
 use Rattle.tally.specs.declared.peak.Peak.{Peak}
+use Rattle.tally.specs.declared.money.MoneyLine.TheVariants.{Power}
 use Rattle.tally.specs.Peak.{peak_of, no_peak, peak_joined}
 use Rattle.tally.specs.Total.{total_over}
+use Rattle.tally.specs.Lines.{Lines, lines_joined, alone, balance_of}
+use Rattle.tally.specs.Sums.{lines_over, sum_to, sum_to_ℤ, int_sum_over}
 use Rattle.forms.specs.Meaning.{Meaning}
+use Rattle.settlement.specs.declared.states.State.{State}
+use Rattle.settlement.specs.declared.states.State.TheVariants.{Open, Closed}
 use Rattle.settlement.specs.Posting.{line_at, Posting}
 use Rattle.settlement.specs.Power.{power_line}
 use Rattle.settlement.specs.Setting.{Setting}
 use Rattle.settlement.specs.Hour.{Figures, no_figures, residue_of}
 use Rattle.settlement.specs.Legs.{hour_of}
-use Rattle.tally.specs.Lines.{Lines, lines_joined, alone, balance_of}
-use Rattle.tally.specs.declared.money.MoneyLine.TheVariants.{Power}
-use Rattle.tally.specs.Sums.{lines_over, sum_to, sum_to_ℤ, int_sum_over}
-use Rattle.standing.specs.Requests.{Opening, count_in, hours_in}
-use Rattle.settlement.specs.declared.states.State.{State}
-use Rattle.settlement.specs.declared.states.State.TheVariants.{Open, Closed}
+use Rattle.standing.specs.Requests.{Opening, count_in, hours_in, Request}
 use Rattle.standing.specs.Standing.{Standing, setting_in}
 use Rattle.standing.specs.Faults.{withdrawn_in, withdrawn_of}
+use Rattle.standing.specs.Turns.{after}
 
 -- an agent's figures of an hour: those of the posting that stands there, with the standing contracts, or none
 abbrev pub figures_from : Setting → (i : ℕ) → Option Posting → Figures
@@ -84,6 +85,10 @@ worked form o s i = record {
   withdrawn = withdrawn_of o s i;
   peak = peak_for o s i;
 }
+
+-- and after a list of requests
+abbrev pub statement_after : Meaning → Opening → List Request → ℕ → Worked
+statement_after form o requests i = worked form o (after form o requests) i
 
 -- ---- the residue
 
