@@ -5,9 +5,11 @@ use Rattle.forms.specs.declared.Delivery.TheVariants.{MarketBar}
 use Rattle.forms.specs.Layers.{product_meaning}
 use Rattle.settlement.specs.declared.agents.Agent.{Agent}
 use Rattle.settlement.specs.declared.lines.Line.{Line}
-use Rattle.standing.specs.Requests.{Opening, Posting, Request, posting, entering}
-use Rattle.standing.specs.Standing.{Standing, after}
-use Rattle.standing.specs.Worked.{balance_of, residue_after}
+use Rattle.settlement.specs.Posting.{Posting}
+use Rattle.standing.specs.Requests.{Opening, Request, posting, entering}
+use Rattle.standing.specs.Standing.{Standing}
+use Rattle.standing.specs.Turns.{after}
+use Rattle.standing.specs.Worked.{agent_balance, residue_after}
 
 -- a generator with a capacity of 4,000 kWh in an hour
 abbrev pub generator_agent : Agent
@@ -19,7 +21,11 @@ distributor_agent = record { role = 2; capacity = 0; power = 0 }
 
 -- the two in a month of one day, a Monday
 abbrev pub month_opening : Opening
-month_opening = record { agents = generator_agent ∷ distributor_agent ∷ []; days = 1; weekday = 0 }
+month_opening = record {
+  agents = generator_agent ∷ distributor_agent ∷ [];
+  days = 1;
+  calendar = record { weekday = 0 };
+}
 
 -- the generator sells the distributor a block of 100 kWh in every hour of the day, at the market bar and 50,000 micro-dollars per kWh
 abbrev pub block_sold : Contract
@@ -45,13 +51,13 @@ line_injected = record { class = 1; cause = 0; injected = 1000; withdrawn = 0; g
 abbrev pub line_withdrawn : Line
 line_withdrawn = record { class = 1; cause = 0; injected = 0; withdrawn = 970; gross = 0; factor = 102000; cost = 0 }
 
--- both in one hour, at 60,000 micro-dollars per kWh
+-- both in the hour that begins at 8, at 60,000 micro-dollars per kWh
 abbrev pub hour_posted : Posting
-hour_posted = record { price = 60000; lines = line_injected ∷ line_withdrawn ∷ [] }
+hour_posted = record { hour = 8; price = 60000; lines = line_injected ∷ line_withdrawn ∷ [] }
 
--- a host enters the contract under number 1, and posts the hour that begins at 8
+-- a host enters the contract under number 1, and posts that hour
 abbrev pub month_requests : List Request
-month_requests = entering 1 block_sold ∷ posting 8 hour_posted ∷ []
+month_requests = entering 1 block_sold ∷ posting hour_posted ∷ []
 
 -- what then stands in the month, which stays open
 abbrev pub month_standing : Standing
@@ -59,7 +65,7 @@ month_standing = after product_meaning month_opening month_requests
 
 -- an agent's balance, counted from 0
 abbrev pub month_balance : ℕ → ℤ
-month_balance = balance_of product_meaning month_opening month_standing
+month_balance = agent_balance product_meaning month_opening month_standing
 
 -- the residue of the month
 abbrev pub month_residue : ℤ
