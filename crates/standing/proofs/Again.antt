@@ -30,7 +30,7 @@ use Rattle.standing.proofs.Postings.{withdrawn_same}
 use Rattle.standing.proofs.Sound.{Sound}
 
 -- a closing meets the same fault where the same stands in the hours of the month
-pub closing_same : (o : Opening) (s t : Standing) → ((hour : ℕ) → hour < hours_in o → s.posted hour ≡ t.posted hour) → closing_fault o s ≡ closing_fault o t
+closing_same : (o : Opening) (s t : Standing) → ((hour : ℕ) → hour < hours_in o → s.posted hour ≡ t.posted hour) → closing_fault o s ≡ closing_fault o t
 closing_same o s t same =
     let missing : first_failing (stands s) 0 (hours_in o) ≡ first_failing (stands t) 0 (hours_in o) =
     first_failing_same (stands s) (stands t) 0 (hours_in o) (λ hour within. ap is_some (same (0 + hour) (omega arith))) in

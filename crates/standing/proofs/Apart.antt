@@ -1,5 +1,5 @@
 -- A book that hears a list of requests, and one that hears it without those about contracts. Assumes nothing.
-use Rattle.std.proofs.Common.{◌≡◌, ℕ, Bool, true, false, cond, List, [], ◌∷◌, map, replicate, None, sym, refl, ap, ◌∙◌}
+use Rattle.std.proofs.Common.{◌≡◌, Bool, true, false, cond, List, [], ◌∷◌, map, replicate, None, sym, refl, ap, ◌∙◌}
 use Rattle.std.proofs.lemmas.Bool.{true≢false, false≢true}
 use Rattle.forms.specs.Limits.{most_contracts}
 use Rattle.forms.specs.Meaning.{Meaning}
@@ -11,7 +11,7 @@ use Rattle.standing.specs.Replies.{Reply, told_as, reply, replies_from, manner_o
 
 -- what stands, its contracts apart
 abbrev pub apart : Standing → Standing
-apart s = record { posted = s.posted; places = replicate most_contracts None; state = s.state }
+apart s = record s { places = replicate most_contracts None }
 
 module _ (form : Meaning) (o : Opening) where
   -- a request that is not about contracts meets the same fault without them
@@ -31,6 +31,7 @@ module _ (form : Meaning) (o : Opening) where
   told_manner s r (was_refused fault) = refl
   told_manner s r was_skipped = refl
 
+  -- so both are told the same manner
   manner_apart : (s : Standing) (r : Request) → about_contracts r ≡ false → manner_of (reply form o s r) ≡ manner_of (reply form o (apart s) r)
   manner_apart s r other = told_manner s r _ ∙ manner_same s r other ∙ sym (told_manner (apart s) r _)
 
@@ -41,6 +42,7 @@ module _ (form : Meaning) (o : Opening) where
   left_apart s _ was_done other = refl
   left_apart s r _ other = refl
 
+  -- so what stands next is the same, contracts apart
   next_apart : (s : Standing) (r : Request) → about_contracts r ≡ false → next form o (apart s) r ≡ apart (next form o s r)
   next_apart s r other = ap (λ m. left_by m r (apart s)) (sym (manner_same s r other)) ∙ left_apart s r (manner form o s r) other
 
@@ -51,6 +53,7 @@ module _ (form : Meaning) (o : Opening) where
   left_about s _ was_done about = absurd (false≢true about)
   left_about s r _ about = refl
 
+  -- so what stands next is as before, contracts apart
   next_about : (s : Standing) (r : Request) → about_contracts r ≡ true → apart s ≡ apart (next form o s r)
   next_about s r about = left_about s r (manner form o s r) about
 
@@ -67,18 +70,6 @@ module _ (form : Meaning) (o : Opening) where
   -- and so after any list from an opening
   pub after_apart : (requests : List Request) → after form o (without_contracts requests) ≡ apart (after form o requests)
   after_apart requests = from_apart nothing_stands requests
-
-  -- the same postings stand
-  pub postings_same : (requests : List Request) (hour : ℕ) → (after form o (without_contracts requests)).posted hour ≡ (after form o requests).posted hour
-  postings_same requests hour = ap (λ s. s.posted hour) (after_apart requests)
-
-  -- both months are open, or both closed
-  pub state_same : (requests : List Request) → (after form o (without_contracts requests)).state ≡ (after form o requests).state
-  state_same requests = ap (λ s. s.state) (after_apart requests)
-
-  -- and in the book that heard of no contracts none stands
-  pub places_none : (requests : List Request) → (after form o (without_contracts requests)).places ≡ replicate most_contracts None
-  places_none requests = ap (λ s. s.places) (after_apart requests)
 
   -- requests that both books heard are answered in the same manner
   alike_from : (s : Standing) (requests : List Request) →

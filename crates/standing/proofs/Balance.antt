@@ -34,11 +34,11 @@ alone_over line start n f =
 
 module _ (form : Meaning) (keeps : Keeps form) (o : Opening) (opened : Opened o) (s : Standing) (sound : Sound form o s) where
   -- a closed month could be closed, and so something carries the power that is due
-  pub power_carried : s.state ≡ Closed → power_uncarried o.agents (withdrawn_of o s) ≡ false
+  power_carried : s.state ≡ Closed → power_uncarried o.agents (withdrawn_of o s) ≡ false
   power_carried is = unmet _ _ (sym (first_met_none (closing_faults o s) (sound.closable is)).1.0)
 
   -- so all power lines come to nothing, also while the month is open, when each is 0
-  pub powers_together : sum_to_ℤ (count_in o) (power_of o s) ≡ pos 0
+  powers_together : sum_to_ℤ (count_in o) (power_of o s) ≡ pos 0
   powers_together = by s.state refl
     where
       by : (state : State) → s.state ≡ state → sum_to_ℤ (count_in o) (λ i. power_in state (power_line o.agents (withdrawn_of o s) i)) ≡ pos 0
@@ -46,7 +46,7 @@ module _ (form : Meaning) (keeps : Keeps form) (o : Opening) (opened : Opened o)
       by Closed is = power_together o.agents (withdrawn_of o s) (power_carried is)
 
   -- what an hour gives all agents together
-  pub hour_together : (hour : ℕ) → hour < hours_in o → lines_over 0 (count_in o) (λ i. (figures_at form o s i hour).lines) ≡ alone Market (neg_ℤ (residue_from (s.posted hour)))
+  hour_together : (hour : ℕ) → hour < hours_in o → lines_over 0 (count_in o) (λ i. (figures_at form o s i hour).lines) ≡ alone Market (neg_ℤ (residue_from (s.posted hour)))
   hour_together =
       at_standing form o opened s sound (λ hour q. lines_over 0 (count_in o) (λ i. (figures_from (setting_in form o s) i q).lines) ≡ alone Market (neg_ℤ (residue_from q)))
       (λ hour. total_over_none lines_lawful 0 (count_in o) (λ i. no_lines) (λ i low below. refl))

@@ -20,7 +20,7 @@ use Rattle.standing.proofs.Postings.{withdrawn_same, worked_same}
 use Rattle.standing.proofs.Sound.{Opened, Sound}
 
 -- the power line depends on what each agent withdrew alone
-pub power_same : (agents : List Agent) (f g : ℕ → ℕ) → ((j : ℕ) → f j ≡ g j) → (i : ℕ) → power_line agents f i ≡ power_line agents g i
+power_same : (agents : List Agent) (f g : ℕ → ℕ) → ((j : ℕ) → f j ≡ g j) → (i : ℕ) → power_line agents f i ≡ power_line agents g i
 power_same agents f g same i = ap (λ withdrawn. power_line agents withdrawn i) (λ t j. same j t)
 
 module _ (form : Meaning) (keeps : Keeps form) (o : Opening) (opened : Opened o) (s : Standing) (sound : Sound form o s) (same : Meaning) (alike : Alike form same) (t : Standing) (level : Level o s t) (i : ℕ) where
@@ -31,7 +31,7 @@ module _ (form : Meaning) (keeps : Keeps form) (o : Opening) (opened : Opened o)
       (sym (contract_points_level (setting_in form o s) keeps opened.few_days p sane sound.contracts same alike t.places level.contracts (is_number i)))
 
   -- equal figures at each hour
-  pub figures_same : (hour : ℕ) → hour < hours_in o → figures_at same o t i hour ≡ figures_at form o s i hour
+  figures_same : (hour : ℕ) → hour < hours_in o → figures_at same o t i hour ≡ figures_at form o s i hour
   figures_same hour within =
       sym (ap (figures_from (setting_in same o t) i) (level.hours hour within))
       ∙ at_standing form o opened s sound (λ h q. figures_from (setting_in same o t) i q ≡ figures_from (setting_in form o s) i q) (λ h. refl) posting_same hour within

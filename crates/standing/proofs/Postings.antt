@@ -1,4 +1,4 @@
--- Where the same postings stand in two books, energies, peaks and residues are the same. Assumes nothing.
+-- Where the same postings stand in two books, energies and peaks are the same. Assumes nothing.
 use Rattle.std.proofs.Common.{◌≡◌, ℕ, ◌<◌, ℤ, ap, arith}
 use Rattle.tally.specs.declared.peak.Peak.{Peak}
 use Rattle.tally.specs.declared.money.MoneyLine.TheVariants.{Power}
@@ -14,17 +14,20 @@ use Rattle.standing.specs.Faults.{withdrawn_in, withdrawn_of}
 use Rattle.standing.specs.Worked.{lines_between, power_of, injected_in, injected_of, peak_for, Worked, worked}
 
 module _ (o : Opening) (s t : Standing) (same : (hour : ℕ) → hour < hours_in o → s.posted hour ≡ t.posted hour) (i : ℕ) where
-  pub injected_same : injected_of o s i ≡ injected_of o t i
+  -- what an agent injected
+  injected_same : injected_of o s i ≡ injected_of o t i
   injected_same =
       total_over_same nat_lawful 0 (hours_in o) (λ hour. injected_in i (s.posted hour)) (λ hour. injected_in i (t.posted hour))
       (λ hour low within. ap (injected_in i) (same hour (omega arith)))
 
+  -- what it withdrew
   pub withdrawn_same : withdrawn_of o s i ≡ withdrawn_of o t i
   withdrawn_same =
       total_over_same nat_lawful 0 (hours_in o) (λ hour. withdrawn_in i (s.posted hour)) (λ hour. withdrawn_in i (t.posted hour))
       (λ hour low within. ap (withdrawn_in i) (same hour (omega arith)))
 
-  pub peak_same : peak_for o s i ≡ peak_for o t i
+  -- and its peak
+  peak_same : peak_for o s i ≡ peak_for o t i
   peak_same =
       total_over_same peak_lawful 0 (hours_in o) (λ hour. peak_of (withdrawn_in i (s.posted hour)) hour) (λ hour. peak_of (withdrawn_in i (t.posted hour)) hour)
       (λ hour low within. ap (λ q. peak_of (withdrawn_in i q) hour) (same hour (omega arith)))
