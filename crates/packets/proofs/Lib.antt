@@ -1,6 +1,5 @@
 pub mod Spelling
 pub mod Formats
 pub mod RowSteps
-pub mod Promises
 pub mod HourSteps
 pub mod StatementSteps

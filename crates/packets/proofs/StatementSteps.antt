@@ -1,49 +1,42 @@
 -- A statement packet's two rows, and its figures. Assumes nothing.
 use Rattle.std.proofs.Common.{◌≡◌, ℕ, ◌+◌, ◌*◌, ◌/◌, ◌%◌, ◌<◌, ◌≤◌, Bool, true, false, cond, eqb, ℤ, pos, negsuc, List, ◌++◌, length, take, drop, get_or, Result, Ok, Err, refl, ap, ◌∙◌, arith}
-use Rattle.std.proofs.lemmas.List.{append-nil, length-append}
+use Rattle.std.proofs.lemmas.List.{append-nil}
 use Rattle.std.proofs.lemmas.Bool.Decides.{nat_tests}
 use Rattle.packets.specs.declared.faults.ByteFault.{ByteFault}
 use Rattle.packets.specs.declared.faults.ByteFault.TheVariants.{Malformed}
 use Rattle.packets.specs.declared.statements.StatementFigures.{StatementFigures}
 use Rattle.packets.specs.Numbers.{overwritten}
-use Rattle.packets.specs.Formats.{Over, and_then, whole, sized, spelled_all, row, closed, Row, row_at}
+use Rattle.packets.specs.Formats.{Over, and_then, before, whole, sized, spelled_all, row, closed, RowRead}
 use Rattle.packets.specs.StatementPackets.{unsigned_of, signed_of, opening_limits, closing_limits, statement_format, statement_figures, statement_of, statement_read}
-use Rattle.packets.proofs.Promises.{before_all, whole_row, sized_row, row_length, listed, placed, same_after, whole_written}
-use Rattle.packets.proofs.HourSteps.{over_some, over_none}
+use Rattle.packets.proofs.Formats.{over_some, over_none, whole_written}
+use Rattle.packets.proofs.RowSteps.{sized_row, listed, placed}
 
--- to read a statement packet is to read its opening, its closing, and then nothing more
-whole_statement : (bytes : List ℕ) → whole statement_format bytes 0 ≡ and_then (row_at opening_limits bytes 0) (λ r. and_then (and_then (row_at (closing_limits r.figures) bytes r.end) (λ q. and_then (whole Over bytes q.end) (before_all q.figures))) (before_all r.figures))
+-- the opening of a statement was read, or a fault was met there
+pub statement_opening : (bytes opening : List ℕ) (r : Result ℕ ByteFault) → RowRead opening_limits bytes 0 opening r →
+    whole statement_format bytes 0 ≡ and_then r (λ k. and_then (whole (row (closing_limits opening) closed) bytes k) (before opening))
 unfolding statement_format
-whole_statement bytes = whole_row opening_limits (λ opening. row (closing_limits opening) closed) bytes 0
-    ∙ same_after (row_at opening_limits bytes 0) _ _ (λ r. ap (λ w. and_then w (before_all r.figures)) (whole_row (closing_limits r.figures) closed bytes r.end))
+statement_opening bytes opening r read = read.goes_on (λ opening. row (closing_limits opening) closed)
 
--- the opening cannot be read
-pub no_opening : (bytes : List ℕ) (fault : ByteFault) → row_at opening_limits bytes 0 ≡ Err fault → whole statement_format bytes 0 ≡ Err fault
-no_opening bytes fault h = whole_statement bytes ∙ ap (λ x. and_then x (λ r. and_then (and_then (row_at (closing_limits r.figures) bytes r.end) (λ q. and_then (whole Over bytes q.end) (before_all q.figures))) (before_all r.figures))) h
-
-begun : (bytes : List ℕ) (r : Row) (q : Result Row ByteFault) → row_at opening_limits bytes 0 ≡ Ok r → row_at (closing_limits r.figures) bytes r.end ≡ q →
-    whole statement_format bytes 0 ≡ and_then (and_then q (λ q. and_then (whole Over bytes q.end) (before_all q.figures))) (before_all r.figures)
-begun bytes r q h hq = whole_statement bytes
-    ∙ ap (λ x. and_then x (λ r. and_then (and_then (row_at (closing_limits r.figures) bytes r.end) (λ q. and_then (whole Over bytes q.end) (before_all q.figures))) (before_all r.figures))) h
-    ∙ ap (λ x. and_then (and_then x (λ q. and_then (whole Over bytes q.end) (before_all q.figures))) (before_all r.figures)) hq
-
--- the closing cannot be read
-pub no_closing : (bytes : List ℕ) (r : Row) (fault : ByteFault) → row_at opening_limits bytes 0 ≡ Ok r → row_at (closing_limits r.figures) bytes r.end ≡ Err fault → whole statement_format bytes 0 ≡ Err fault
-no_closing bytes r fault h hq = begun bytes r (Err fault) h hq
+-- the closing after it was read too, or a fault was met there
+pub statement_closing : (bytes opening closing : List ℕ) (middle : ℕ) (r : Result ℕ ByteFault) → RowRead opening_limits bytes 0 opening (Ok middle) → RowRead (closing_limits opening) bytes middle closing r →
+    whole statement_format bytes 0 ≡ and_then (and_then r (λ k. and_then (whole Over bytes k) (before closing))) (before opening)
+statement_closing bytes opening closing middle r first second =
+    statement_opening bytes opening (Ok middle) first ∙ ap (λ w. and_then w (before opening)) (second.goes_on closed)
 
 -- bytes are left over
-pub statement_left_over : (bytes : List ℕ) (r q : Row) → row_at opening_limits bytes 0 ≡ Ok r → row_at (closing_limits r.figures) bytes r.end ≡ Ok q → q.end < length bytes → whole statement_format bytes 0 ≡ Err (Malformed q.end)
-statement_left_over bytes r q h hq some = begun bytes r (Ok q) h hq ∙ ap (λ w. and_then (and_then w (before_all q.figures)) (before_all r.figures)) (over_some bytes q.end some)
+pub statement_left_over : (bytes opening closing : List ℕ) (middle end : ℕ) → RowRead opening_limits bytes 0 opening (Ok middle) → RowRead (closing_limits opening) bytes middle closing (Ok end) → end < length bytes →
+    whole statement_format bytes 0 ≡ Err (Malformed end)
+statement_left_over bytes opening closing middle end first second some =
+    statement_closing bytes opening closing middle (Ok end) first second
+    ∙ ap (λ w. and_then (and_then w (before closing)) (before opening)) (over_some bytes end some)
 
 -- all is read
-pub statement_whole : (bytes : List ℕ) (r q : Row) → row_at opening_limits bytes 0 ≡ Ok r → row_at (closing_limits r.figures) bytes r.end ≡ Ok q → length bytes ≤ q.end → whole statement_format bytes 0 ≡ Ok (r.figures ++ q.figures)
-statement_whole bytes r q h hq none = begun bytes r (Ok q) h hq
-    ∙ ap (λ w. and_then (and_then w (before_all q.figures)) (before_all r.figures)) (over_none bytes q.end none)
-    ∙ ap (λ vs. Ok (r.figures ++ vs)) (append-nil q.figures)
-
--- how many figures a statement has
-pub figures_counted : (bytes : List ℕ) (r q : Row) → row_at opening_limits bytes 0 ≡ Ok r → row_at (closing_limits r.figures) bytes r.end ≡ Ok q → length (r.figures ++ q.figures) ≡ 11
-figures_counted bytes r q h hq = omega (arith, length-append r.figures q.figures, row_length opening_limits bytes 0 r h, row_length (closing_limits r.figures) bytes r.end q hq)
+pub statement_whole : (bytes opening closing : List ℕ) (middle end : ℕ) → RowRead opening_limits bytes 0 opening (Ok middle) → RowRead (closing_limits opening) bytes middle closing (Ok end) → length bytes ≤ end →
+    whole statement_format bytes 0 ≡ Ok (opening ++ closing)
+statement_whole bytes opening closing middle end first second none =
+    statement_closing bytes opening closing middle (Ok end) first second
+    ∙ ap (λ w. and_then (and_then w (before closing)) (before opening)) (over_none bytes end none)
+    ∙ ap (λ vs. Ok (opening ++ vs)) (append-nil closing)
 
 -- a signed number is the one that its number stands for
 pub signed_back : (v : ℤ) → signed_of (unsigned_of v) ≡ v

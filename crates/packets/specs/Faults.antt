@@ -1,14 +1,29 @@
 -- The faults of packets by number and place. Assumes nothing.
-use Rattle.std.specs.Prelude.{ℕ}
+use Rattle.std.specs.Prelude.{ℕ, Result, Ok, Err}
 use Rattle.packets.specs.declared.faults.ByteFault.{ByteFault}
-use Rattle.packets.specs.declared.faults.ByteFault.TheVariants.{WrongSize, Malformed}
+use Rattle.packets.specs.declared.faults.ByteFault.TheVariants.{Malformed}
+use Rattle.packets.specs.declared.faults.PacketFault.{PacketFault}
+use Rattle.packets.specs.declared.faults.PacketFault.TheVariants.{WrongSize, Bytes}
 
--- the number of a fault
+-- the number of a fault of bytes or figures
 abbrev pub number_of : ByteFault → ℕ
-number_of WrongSize = 1
 number_of (Malformed place) = 17
 
 -- its place
 abbrev pub place_of : ByteFault → ℕ
-place_of WrongSize = 0
 place_of (Malformed place) = place
+
+-- the number of a fault of bytes, figures or memory
+abbrev pub packet_number : PacketFault → ℕ
+packet_number WrongSize = 1
+packet_number (Bytes fault) = number_of fault
+
+-- its place
+abbrev pub packet_place : PacketFault → ℕ
+packet_place WrongSize = 0
+packet_place (Bytes fault) = place_of fault
+
+-- a fault of the bytes is carried whole
+abbrev pub of_bytes : {A : Type 0} → Result A ByteFault → Result A PacketFault
+of_bytes (Ok x) = Ok x
+of_bytes (Err fault) = Err (Bytes fault)

@@ -1,15 +1,19 @@
 -- Formats as data, and what reading and writing by a format come to. Places are counted from 0. Assumes nothing.
-use Rattle.std.specs.Prelude.{ℕ, ◌≡◌, ◌≤◌, ◌<◌, ◌+◌, Bool, cond, ◌&&◌, List, [], ◌∷◌, ◌++◌, length, drop, Option, Some, None, Result, Ok, Err, nat_le, slice_index, slice_index_or}
+use Rattle.std.specs.Prelude.{ℕ, ◌≡◌, ◌≤◌, ◌<◌, ◌+◌, Bool, if◌then◌else◌, ◌&&◌, List, [], ◌∷◌, ◌++◌, length, drop, Option, Some, None, Result, Ok, Err, nat_le, slice_index, slice_index_or}
+use Rattle.std.specs.List.{flat_map}
 use Rattle.packets.specs.declared.faults.ByteFault.{ByteFault}
-use Rattle.packets.specs.declared.faults.ByteFault.TheVariants.{WrongSize, Malformed}
+use Rattle.packets.specs.declared.faults.ByteFault.TheVariants.{Malformed}
+use Rattle.packets.specs.declared.faults.PacketFault.{PacketFault}
+use Rattle.packets.specs.declared.faults.PacketFault.TheVariants.{WrongSize}
 use Rattle.packets.specs.declared.numbers.Number.{Number}
 use Rattle.packets.specs.declared.rows.Limits.{Limits}
+use Rattle.packets.specs.Faults.{of_bytes}
 use Rattle.packets.specs.Numbers.{number_in, spelled, overwritten}
 
--- what may come next: nothing more, or a number from the least to the most, which sets what may follow it
+-- what may come next: nothing more, or a number within limits, which sets what may follow it
 pub data Format : Type 0 where
   Over : Format
-  Field : (least most : ℕ) → (next : ℕ → Format) → Format
+  Field : Limits → (next : ℕ → Format) → Format
 
 -- what follows an answer that is no fault
 abbrev pub and_then : {A B F : Type 0} → Result A F → (A → Result B F) → Result B F
@@ -17,68 +21,56 @@ and_then (Ok x) next = next x
 and_then (Err fault) next = Err fault
 
 -- whether a number is within its limits
-abbrev pub within : ℕ → ℕ → ℕ → Bool
-within least most v = nat_le least v && nat_le v most
+abbrev pub within : Limits → ℕ → Bool
+within limits v = nat_le limits.least v && nat_le v limits.most
 
 -- a number, if there is one and it is within its limits; what is wrong starts at the place
-abbrev pub limited : ℕ → ℕ → ℕ → Option Number → Result Number ByteFault
-limited least most at None = Err (Malformed at)
-limited least most at (Some n) = cond (within least most n.value) (Ok n) (Err (Malformed at))
+abbrev pub limited : Limits → (at : ℕ) → Option Number → Result Number ByteFault
+limited limits at None = Err (Malformed at)
+limited limits at (Some n) = if within limits n.value then Ok n else Err (Malformed at)
 
 -- the number that starts at a place of the bytes, within its limits
-unfoldable pub figure_at : ℕ → ℕ → List ℕ → ℕ → Result Number ByteFault
-figure_at least most bytes at = limited least most at (number_in (drop at bytes))
+unfoldable pub figure_at : Limits → (bytes : List ℕ) → (at : ℕ) → Result Number ByteFault
+figure_at limits bytes at = limited limits at (number_in (drop at bytes))
 
--- a figure before others
-abbrev pub before_them : ℕ → List ℕ → Result (List ℕ) ByteFault
-before_them v figures = Ok (v ∷ figures)
+-- figures before others
+abbrev pub before : List ℕ → List ℕ → Result (List ℕ) ByteFault
+before figures more = Ok (figures ++ more)
 
 -- the figures that bytes hold from a place to their end
-unfoldable pub whole : Format → List ℕ → ℕ → Result (List ℕ) ByteFault
-whole Over bytes at = cond (nat_le (length bytes) at) (Ok []) (Err (Malformed at))
-whole (Field least most next) bytes at =
-    and_then (figure_at least most bytes at) (λ n. and_then (whole (next n.value) bytes (at + n.size)) (before_them n.value))
+unfoldable pub whole : Format → (bytes : List ℕ) → (at : ℕ) → Result (List ℕ) ByteFault
+whole Over bytes at = if nat_le (length bytes) at then Ok [] else Err (Malformed at)
+whole (Field limits next) bytes at =
+    and_then (figure_at limits bytes at)
+    (λ n. and_then (whole (next n.value) bytes (at + n.size)) (before (n.value ∷ [])))
 
 -- where figures that are written from a place on would end
-unfoldable pub sized : Format → List ℕ → ℕ → Result ℕ ByteFault
+unfoldable pub sized : Format → (figures : List ℕ) → (at : ℕ) → Result ℕ ByteFault
 sized Over [] at = Ok at
 sized Over (v ∷ figures) at = Err (Malformed at)
-sized (Field least most next) [] at = Err (Malformed at)
-sized (Field least most next) (v ∷ figures) at = cond (within least most v) (sized (next v) figures (at + length (spelled v))) (Err (Malformed at))
+sized (Field limits next) [] at = Err (Malformed at)
+sized (Field limits next) (v ∷ figures) at =
+    if within limits v then sized (next v) figures (at + length (spelled v)) else Err (Malformed at)
 
 -- the bytes that spell figures
 abbrev pub spelled_all : List ℕ → List ℕ
-spelled_all [] = []
-spelled_all (v ∷ figures) = spelled v ++ spelled_all figures
+spelled_all figures = flat_map spelled figures
 
 -- a row of numbers, and what follows them
-unfoldable pub row : List Limits → (List ℕ → Format) → Format
+unfoldable pub row : List Limits → (next : List ℕ → Format) → Format
 row [] next = next []
-row (l ∷ limits) next = Field l.least l.most (λ v. row limits (λ figures. next (v ∷ figures)))
+row (l ∷ limits) next = Field l (λ v. row limits (λ figures. next (v ∷ figures)))
 
 -- nothing follows
 abbrev pub closed : List ℕ → Format
 closed figures = Over
 
--- the figures of a row, and where it ends
-pub record Row : Type 0 where
-  pub figures : List ℕ
-  pub end : ℕ
-
--- a figure before those of a row
-abbrev pub before_row : ℕ → Row → Result Row ByteFault
-before_row v r = Ok (record { figures = v ∷ r.figures; end = r.end })
-
--- a row of numbers from a place of the bytes on
-unfoldable pub row_at : List Limits → List ℕ → ℕ → Result Row ByteFault
-row_at [] bytes at = Ok (record { figures = []; end = at })
-row_at (l ∷ limits) bytes at =
-    and_then (figure_at l.least l.most bytes at) (λ n. and_then (row_at limits bytes (at + n.size)) (before_row n.value))
-
--- the figures that stand in memory, once a row has been read there
-abbrev pub row_answer : List ℕ → Result ℕ ByteFault → Result Row ByteFault
-row_answer figures (Ok end) = Ok (record { figures = figures; end = end })
-row_answer figures (Err fault) = Err fault
+-- A row was read from a place on, or a fault was met there: whatever may follow the row, the figures
+-- from there to the end of the bytes are its own and those that follow.
+pub record RowRead (limits : List Limits) (bytes : List ℕ) (at : ℕ) (figures : List ℕ)
+    (end : Result ℕ ByteFault) : Type 0 where
+  pub goes_on : (next : List ℕ → Format) → whole (row limits next) bytes at
+      ≡ and_then end (λ k. and_then (whole (next figures) bytes k) (before figures))
 
 -- what stands past the last limits of a row: only 0 is within them
 abbrev pub no_limits : Limits
@@ -88,25 +80,35 @@ no_limits = record { least = 0; most = 0 }
 abbrev pub most_at : List Limits → ℕ → ℕ
 most_at limits k = (slice_index_or limits k no_limits).most
 
--- how many bytes figures are written in: an output that is too short is told after figures that the format has no place for
-abbrev pub written : Format → List ℕ → List ℕ → Result ℕ ByteFault
-written f figures output = and_then (sized f figures 0) (λ size. cond (nat_le size (length output)) (Ok size) (Err WrongSize))
+-- each number of a row is at most what it may be
+abbrev pub AtMost : List Limits → (figures : List ℕ) → Type 0
+AtMost limits figures = (k : ℕ) → k < length limits → slice_index figures k ≤ most_at limits k
+
+-- How many bytes figures are written in. An output that is too short is told after figures that the
+-- format has no place for.
+abbrev pub written : Format → (figures output : List ℕ) → Result ℕ PacketFault
+written f figures output =
+    and_then (of_bytes (sized f figures 0))
+    (λ size. if nat_le size (length output) then Ok size else Err WrongSize)
 
 -- what an answer leaves of an output: the bytes over its first ones, or what was there
-abbrev pub left_with : Result ℕ ByteFault → List ℕ → List ℕ → List ℕ
+abbrev pub left_with : Result ℕ PacketFault → (bytes output : List ℕ) → List ℕ
 left_with (Ok size) bytes output = overwritten bytes output
 left_with (Err fault) bytes output = output
 
 -- the output once figures were written there
-abbrev pub output_with : Format → List ℕ → List ℕ → List ℕ
+abbrev pub output_with : Format → (figures output : List ℕ) → List ℕ
 output_with f figures output = left_with (written f figures output) (spelled_all figures) output
 
 -- numbers that are bytes
 abbrev pub AreBytes : List ℕ → Type 0
 AreBytes bytes = (k : ℕ) → slice_index bytes k < 256
 
--- whatever output has room for the bytes, writing the figures there gives them; and no other bytes hold these figures
+-- Whatever output has room for the bytes, writing the figures there gives them; and no other bytes
+-- hold these figures.
 pub record Spells (f : Format) (figures bytes : List ℕ) : Type 0 where
-  pub size : (output : List ℕ) → length bytes ≤ length output → written f figures output ≡ Ok (length bytes)
-  pub output : (output : List ℕ) → length bytes ≤ length output → output_with f figures output ≡ overwritten bytes output
+  pub size : (output : List ℕ) → length bytes ≤ length output →
+      written f figures output ≡ Ok (length bytes)
+  pub output : (output : List ℕ) → length bytes ≤ length output →
+      output_with f figures output ≡ overwritten bytes output
   pub alone : (other : List ℕ) → AreBytes other → whole f other 0 ≡ Ok figures → other ≡ bytes

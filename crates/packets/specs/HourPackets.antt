@@ -1,26 +1,31 @@
--- Hour packets: their format, and the lines and the heading that they hold. Assumes nothing.
-use Rattle.std.specs.Prelude.{ℕ, zero, suc, ◌≡◌, cond, List, [], ◌∷◌, ◌++◌, length, drop, Result, Ok, Err, ◌==◌, slice_index}
+-- Hour packets: their format, and the hour that they say. Assumes nothing.
+use Rattle.std.specs.Prelude.{ℕ, zero, suc, ◌≡◌, ◌≤◌, ◌-◌, ◌^◌, if◌then◌else◌, List, [], ◌∷◌, length, take, drop, replicate, Result, Ok, Err, nat_lt, slice_index}
+use Rattle.std.specs.List.{flat_map}
 use Rattle.packets.specs.declared.faults.ByteFault.{ByteFault}
-use Rattle.packets.specs.declared.faults.ByteFault.TheVariants.{WrongSize}
+use Rattle.packets.specs.declared.faults.PacketFault.{PacketFault}
+use Rattle.packets.specs.declared.faults.PacketFault.TheVariants.{WrongSize}
 use Rattle.packets.specs.declared.rows.Limits.{Limits}
 use Rattle.packets.specs.declared.hours.PacketLine.{PacketLine}
 use Rattle.packets.specs.declared.hours.HourHeading.{HourHeading}
-use Rattle.packets.specs.Formats.{Format, Over, and_then, whole, row, row_at, Spells}
+use Rattle.packets.specs.Faults.{of_bytes}
+use Rattle.packets.specs.Formats.{Format, Over, and_then, before, whole, row, spelled_all, written, output_with, Spells}
+use Rattle.packets.specs.Numbers.{overwritten}
+use Rattle.packets.specs.Hours.{PacketHour, packet_hour, most_lines}
 
--- a number below 2 ^ 32
+-- a number of 32 bits
 abbrev pub narrow : Limits
-narrow = record { least = 0; most = 4294967295 }
+narrow = record { least = 0; most = 2 ^ 32 - 1 }
 
--- the hour, the price, and how many lines follow: 1 to 64
+-- the hour, the price, and how many lines follow
 abbrev pub heading_limits : List Limits
-heading_limits = narrow ∷ narrow ∷ record { least = 1; most = 64 } ∷ []
+heading_limits = narrow ∷ narrow ∷ record { least = 1; most = most_lines } ∷ []
 
 -- the seven numbers of a line
 abbrev pub line_limits : List Limits
-line_limits = narrow ∷ narrow ∷ narrow ∷ narrow ∷ narrow ∷ narrow ∷ narrow ∷ []
+line_limits = replicate 7 narrow
 
 -- so many lines, and nothing more
-unfoldable pub lines_format : ℕ → Format
+unfoldable pub lines_format : (count : ℕ) → Format
 lines_format zero = Over
 lines_format (suc n) = row line_limits (λ line. lines_format n)
 
@@ -45,64 +50,76 @@ line_of figures = record {
 }
 
 -- the figures of lines, one line after another
-unfoldable pub lines_figures : List PacketLine → List ℕ
-lines_figures [] = []
-lines_figures (l ∷ lines) = line_figures l ++ lines_figures lines
-
--- the figures of a packet
-abbrev pub hour_figures : ℕ → ℕ → List PacketLine → List ℕ
-hour_figures hour price lines = (hour ∷ price ∷ length lines ∷ []) ++ lines_figures lines
-
--- the heading of a packet's figures
-abbrev pub heading_of : List ℕ → HourHeading
-heading_of figures = record { hour = slice_index figures 0; price = slice_index figures 1; count = slice_index figures 2 }
+abbrev pub lines_figures : List PacketLine → List ℕ
+lines_figures lines = flat_map line_figures lines
 
 -- so many lines of figures, seven figures each
-unfoldable pub lines_of : ℕ → List ℕ → List PacketLine
+unfoldable pub lines_of : (count : ℕ) → (figures : List ℕ) → List PacketLine
 lines_of zero figures = []
 lines_of (suc n) figures = line_of figures ∷ lines_of n (drop 7 figures)
 
--- the heading of the packet that bytes are
-abbrev pub heading_in : List ℕ → Result HourHeading ByteFault
-heading_in bytes = and_then (whole hour_format bytes 0) (λ figures. Ok (heading_of figures))
+-- Lines were read from a place on, or a fault was met there: the figures from there to the end of
+-- the bytes are those of the lines.
+pub record LinesRead (bytes : List ℕ) (at : ℕ) (lines : List PacketLine) (end : Result ℕ ByteFault)
+    : Type 0 where
+  pub goes_on : whole (lines_format (length lines)) bytes at
+      ≡ and_then end (λ k. and_then (whole Over bytes k) (before (lines_figures lines)))
 
--- what reading a packet answers, given these places for lines: there are to be 64
-abbrev pub heading_read : List ℕ → List PacketLine → Result HourHeading ByteFault
-heading_read bytes places = cond (length places == 64) (heading_in bytes) (Err WrongSize)
+-- the figures of a packet
+abbrev pub hour_figures : PacketHour → List ℕ
+hour_figures h = h.hour ∷ h.price ∷ length h.lines ∷ lines_figures h.lines
 
--- the lines of figures over the first of the places, or the places as they were
-abbrev pub places_with : Result (List ℕ) ByteFault → List PacketLine → List PacketLine
-places_with (Ok figures) places = let count = slice_index figures 2 in lines_of count (drop 3 figures) ++ drop count places
+-- the bytes of a packet
+abbrev pub hour_bytes : PacketHour → List ℕ
+hour_bytes h = spelled_all (hour_figures h)
+
+-- the hour of a packet's figures
+abbrev pub hour_of : List ℕ → PacketHour
+hour_of figures = record {
+  hour = slice_index figures 0;
+  price = slice_index figures 1;
+  lines = lines_of (slice_index figures 2) (drop 3 figures);
+}
+
+-- the hour of the packet that bytes are
+abbrev pub hour_in : (bytes : List ℕ) → Result PacketHour ByteFault
+hour_in bytes = and_then (whole hour_format bytes 0) (λ figures. Ok (hour_of figures))
+
+-- what is read where these places for lines are lent: they are to be as many as a packet may have lines, or more
+abbrev pub hour_read : (bytes : List ℕ) → (places : List PacketLine) → Result PacketHour PacketFault
+hour_read bytes places =
+    if nat_lt (length places) most_lines then Err WrongSize else of_bytes (hour_in bytes)
+
+-- what an hour has before its lines, and how many those are
+abbrev pub heading_of : PacketHour → HourHeading
+heading_of h = record { hour = h.hour; price = h.price; count = length h.lines }
+
+-- what a reading answers
+abbrev pub heading_read : Result PacketHour PacketFault → Result HourHeading PacketFault
+heading_read read = and_then read (λ h. Ok (heading_of h))
+
+-- the places for lines after a reading: the lines are over the first of them
+abbrev pub places_with : Result PacketHour PacketFault → List PacketLine → List PacketLine
+places_with (Ok h) places = overwritten h.lines places
 places_with (Err fault) places = places
 
--- the places for lines once a packet was read there
-abbrev pub lines_read : List ℕ → List PacketLine → List PacketLine
-lines_read bytes places = cond (length places == 64) (places_with (whole hour_format bytes 0) places) places
+-- the hour of which this is the heading, and the first of the places are the lines
+abbrev pub hour_with : HourHeading → (places : List PacketLine) → PacketHour
+hour_with heading places = packet_hour heading.hour heading.price (take heading.count places)
 
--- bytes read back as the figures of an hour, whatever 64 places they are read into
-pub record HourReadsBack (hour price : ℕ) (lines : List PacketLine) (bytes : List ℕ) : Type 0 where
-  pub heading : (places : List PacketLine) → length places ≡ 64 → heading_read bytes places ≡ Ok (record { hour = hour; price = price; count = length lines })
-  pub places : (places : List PacketLine) → length places ≡ 64 → lines_read bytes places ≡ lines ++ drop (length lines) places
+-- what writing an hour answers, and what it leaves of an output
+abbrev pub hour_written : PacketHour → (output : List ℕ) → Result ℕ PacketFault
+hour_written h output = written hour_format (hour_figures h) output
 
--- bytes are the only ones that are written for the figures of an hour
-abbrev pub HourSpelledOnce : ℕ → ℕ → List PacketLine → List ℕ → Type 0
-HourSpelledOnce hour price lines bytes = Spells hour_format (hour_figures hour price lines) bytes
+abbrev pub hour_output : PacketHour → (output : List ℕ) → List ℕ
+hour_output h output = output_with hour_format (hour_figures h) output
 
--- lines, and where they end
-pub record Lines : Type 0 where
-  pub lines : List PacketLine
-  pub end : ℕ
+-- bytes read back as an hour, whatever places for lines it is read into
+pub record HourReadsBack (h : PacketHour) (bytes : List ℕ) : Type 0 where
+  pub alone : hour_in bytes ≡ Ok h
+  pub places : (places : List PacketLine) → most_lines ≤ length places →
+      hour_read bytes places ≡ Ok h
 
--- a line before others
-abbrev pub before_lines : PacketLine → Lines → Result Lines ByteFault
-before_lines l read = Ok (record { lines = l ∷ read.lines; end = read.end })
-
--- so many lines from a place of the bytes on
-unfoldable pub lines_at : ℕ → List ℕ → ℕ → Result Lines ByteFault
-lines_at zero bytes at = Ok (record { lines = []; end = at })
-lines_at (suc n) bytes at = and_then (row_at line_limits bytes at) (λ r. and_then (lines_at n bytes r.end) (before_lines (line_of r.figures)))
-
--- the lines that stand in memory, once they have been read there
-abbrev pub lines_answer : List PacketLine → Result ℕ ByteFault → Result Lines ByteFault
-lines_answer lines (Ok end) = Ok (record { lines = lines; end = end })
-lines_answer lines (Err fault) = Err fault
+-- bytes are the only ones that are written for an hour
+abbrev pub HourSpelledOnce : PacketHour → (bytes : List ℕ) → Type 0
+HourSpelledOnce h bytes = Spells hour_format (hour_figures h) bytes

@@ -1,5 +1,6 @@
 pub mod Faults
 pub mod Numbers
 pub mod Formats
+pub mod Hours
 pub mod HourPackets
 pub mod StatementPackets

@@ -1,10 +1,10 @@
 -- Statement packets: their format, and the statement that they hold. Assumes nothing.
-use Rattle.std.specs.Prelude.{ℕ, ◌+◌, ◌*◌, ◌/◌, ◌%◌, cond, ℤ, pos, negsuc, ◌+ℤ◌, List, [], ◌∷◌, Result, Ok, ◌==◌, slice_index}
+use Rattle.std.specs.Prelude.{ℕ, ◌+◌, ◌*◌, ◌/◌, ◌%◌, ◌^◌, ◌-◌, if◌then◌else◌, ℤ, pos, negsuc, ◌+ℤ◌, List, [], ◌∷◌, Result, Ok, ◌==◌, slice_index}
 use Rattle.std.specs.Int.{int_wrap, w64}
 use Rattle.packets.specs.declared.faults.ByteFault.{ByteFault}
 use Rattle.packets.specs.declared.rows.Limits.{Limits}
 use Rattle.packets.specs.declared.statements.StatementFigures.{StatementFigures}
-use Rattle.packets.specs.Formats.{Format, and_then, whole, row, closed, Spells}
+use Rattle.packets.specs.Formats.{Format, and_then, whole, row, closed, spelled_all, Spells}
 
 -- a signed number v as a number: 2 v, or below zero -2 v - 1, which is 2 n + 1 at v = -1 - n
 abbrev pub unsigned_of : ℤ → ℕ
@@ -13,11 +13,11 @@ unsigned_of (negsuc n) = 2 * n + 1
 
 -- the signed number that a number stands for
 abbrev pub signed_of : ℕ → ℤ
-signed_of v = cond (v % 2 == 0) (pos (v / 2)) (negsuc (v / 2))
+signed_of v = if v % 2 == 0 then pos (v / 2) else negsuc (v / 2)
 
 -- any number of 64 bits
 abbrev pub wide : Limits
-wide = record { least = 0; most = 18446744073709551615 }
+wide = record { least = 0; most = 2 ^ 64 - 1 }
 
 -- one number and no other
 abbrev pub just : ℕ → Limits
@@ -25,11 +25,14 @@ just v = record { least = v; most = v }
 
 -- the state, 0 for open and 1 for closed; the agent, 1 to 64; the four lines
 abbrev pub opening_limits : List Limits
-opening_limits = record { least = 0; most = 1 } ∷ record { least = 1; most = 64 } ∷ wide ∷ wide ∷ wide ∷ wide ∷ []
+opening_limits =
+    record { least = 0; most = 1 } ∷ record { least = 1; most = 64 } ∷ wide ∷ wide ∷ wide ∷ wide ∷ []
 
 -- the sum of the four lines, in 64 bits
 abbrev pub balance_of : List ℕ → ℤ
-balance_of opening = int_wrap w64 (signed_of (slice_index opening 2) +ℤ signed_of (slice_index opening 3) +ℤ signed_of (slice_index opening 4) +ℤ signed_of (slice_index opening 5))
+balance_of opening =
+    let line : ℕ → ℤ = λ k. signed_of (slice_index opening (2 + k)) in
+    int_wrap w64 (line 0 +ℤ line 1 +ℤ line 2 +ℤ line 3)
 
 -- the balance, which is the sum of the lines; the injected and the withdrawn energy; the peak and its hour
 abbrev pub closing_limits : List ℕ → List Limits
@@ -42,8 +45,13 @@ statement_format = row opening_limits (λ opening. row (closing_limits opening) 
 -- the figures of a statement
 abbrev pub statement_figures : StatementFigures → List ℕ
 statement_figures s =
-    s.state ∷ s.agent ∷ unsigned_of s.market ∷ unsigned_of s.contract ∷ unsigned_of s.overcost ∷ unsigned_of s.power
+    s.state ∷ s.agent
+    ∷ unsigned_of s.market ∷ unsigned_of s.contract ∷ unsigned_of s.overcost ∷ unsigned_of s.power
     ∷ unsigned_of s.balance ∷ s.injected ∷ s.withdrawn ∷ s.peak_kwh ∷ s.peak_hour ∷ []
+
+-- the bytes of a statement
+abbrev pub statement_bytes : StatementFigures → List ℕ
+statement_bytes s = spelled_all (statement_figures s)
 
 -- the statement of these figures
 abbrev pub statement_of : List ℕ → StatementFigures

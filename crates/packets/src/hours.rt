@@ -1,14 +1,16 @@
 //! Hour packets: an hour, its price and its lines.
 ghost use Rattle.std.specs.Prelude.{ℕ, ◌≡◌, ◌≤◌, ◌<◌, ◌+◌, ◌*◌, ◌^◌, IfOk, ◌∷◌, [], length, slice_index, take};
-ghost use Rattle.packets.specs.Formats.{sized, whole, spelled_all, output_with, written};
+ghost use Rattle.packets.specs.Formats.{sized};
+ghost use Rattle.packets.specs.Hours.{PacketHour, packet_hour, most_lines};
+ghost use Rattle.packets.specs.HourPackets.{LinesRead, hour_format, hour_figures, hour_bytes, hour_in, hour_read, heading_read, places_with, hour_with, hour_written, hour_output, HourReadsBack, HourSpelledOnce};
 ghost use Rattle.packets.specs.Numbers.{overwritten};
-ghost use Rattle.packets.specs.HourPackets.{line_figures, line_of, lines_answer, lines_at, line_limits, hour_format, hour_figures, heading_in, heading_read, lines_read, HourReadsBack, HourSpelledOnce};
 
-use crate::faults::ByteFault;
+use crate::faults::{ByteFault, PacketFault};
 use crate::rows::{Limits, check_row, read_row, write_row};
+use std::marker::Model;
 
-/// How many lines a packet has at most, and how many places for lines a reader is lent.
-const PLACES: usize = 64;
+/// How many lines a packet has at most, and how many places for lines a reader is lent at least.
+const MOST_LINES: usize = 64;
 
 /// A number below 2 ^ 32.
 const NARROW: Limits = Limits {
@@ -25,7 +27,6 @@ const LINE: [Limits; 7] = [NARROW; 7];
 /// A line as a packet carries it: raw figures, any at all.
 #[derive(Clone, Copy, PartialEq, Eq, Debug)]
 pub struct PacketLine {
-    // Kept as numbers, class and cause, since a packet only carries them: whoever posts the lines says what they may be.
     pub class: u32,
     pub cause: u32,
     pub injected: u32,
@@ -44,6 +45,8 @@ pub struct HourHeading {
 }
 
 impl PacketLine {
+    ghost use Rattle.packets.specs.HourPackets.{line_figures};
+
     /// A line of no figures.
     pub const NONE: PacketLine = PacketLine {
         class: 0,
@@ -73,7 +76,7 @@ impl PacketLine {
     /// The line of these figures.
     fn of(figures: &[u64; 7]) -> PacketLine
         requires { (k : ℕ) → slice_index figures.now k < 2 ^ 32 }
-        ensures { result ≡ line_of figures.now }
+        ensures { line_figures result ≡ figures.now }
     {
         let [class, cause, injected, withdrawn, gross, factor, cost] = *figures;
         PacketLine {
@@ -92,7 +95,7 @@ impl PacketLine {
 fn read_lines(bytes: &[u8], from: usize, lines: &mut [PacketLine]) -> Result<usize, ByteFault>
     requires near { from + 70 * length lines.old < 2 ^ 32 }
     requires among { from ≤ length bytes.now }
-    ensures value { lines_answer lines.new result ≡ lines_at (length lines.old) bytes.now from }
+    ensures read { LinesRead bytes.now from lines.new result }
     ensures near { IfOk result (λ end. end ≤ from + 70 * length lines.old) }
     ensures among { IfOk result (λ end. end ≤ length bytes.now) }
 {
@@ -105,42 +108,87 @@ fn read_lines(bytes: &[u8], from: usize, lines: &mut [PacketLine]) -> Result<usi
     Ok(at)
 }
 
-/// Reads an hour packet into 64 places, of which nothing is said on a refusal.
-fn read_packet(bytes: &[u8], places: &mut [PacketLine]) -> Result<HourHeading, ByteFault>
-    requires { length places.old ≡ 64 }
-    ensures value { result ≡ heading_in bytes.now }
-    ensures few { IfOk result (λ heading. heading.count ≤ 64) }
-    ensures figures { IfOk result (λ heading. whole hour_format bytes.now 0 ≡ Ok (hour_figures heading.hour heading.price (take heading.count places.new))) }
-{
-    let mut figures = [0; 3];
-    let from = read_row(&HEADING, bytes, 0, &mut figures)?;
-    let [hour, price, count] = figures;
-    let count = count as usize;
-    let end = read_lines(bytes, from, &mut places[..count])?;
-    if end < bytes.len() {
-        return Err(ByteFault::Malformed(end as u32));
-    }
-    Ok(HourHeading {
-        hour: hour as u32,
-        price: price as u32,
-        count,
-    })
+/// An hour packet that was read: the hour, the price and the lines that it says.
+#[derive(Drop)]
+pub struct HourPacket {
+    hour: u32,
+    price: u32,
+    places: [PacketLine; MOST_LINES],
+    count: usize,
 }
 
-/// Reads an hour packet into 64 places for lines. The places past its lines, and on a refusal all of them, stay as they were.
-pub fn read_hour(bytes: &[u8], lines: &mut [PacketLine]) -> Result<HourHeading, ByteFault>
-    ensures value { result ≡ heading_read bytes.now lines.old }
-    ensures lines { lines.new ≡ lines_read bytes.now lines.old }
-    ensures few { IfOk result (λ heading. heading.count ≤ 64) }
-    ensures once { IfOk result (λ heading. HourSpelledOnce heading.hour heading.price (take heading.count lines.new) bytes.now) }
-{
-    if lines.len() != PLACES {
-        return Err(ByteFault::WrongSize);
+impl Model for HourPacket {
+    ghost use Rattle.std.specs.Prelude.{◌≤◌, take};
+    ghost use Rattle.packets.specs.Hours.{PacketHour, packet_hour};
+
+    ghost Value = { PacketHour };
+
+    ghost view = { λ p. packet_hour p.hour p.price (take p.count p.places) };
+
+    ghost invariant = { λ p. p.count ≤ 64 };
+}
+
+impl HourPacket {
+    /// The packet that bytes are.
+    pub fn read(bytes: &[u8]) -> Result<HourPacket, ByteFault>
+        ensures value { result ≡ hour_in bytes.now }
+        ensures once { IfOk result (λ h. HourSpelledOnce h bytes.now) }
+    {
+        let mut heading = [0; 3];
+        let from = read_row(&HEADING, bytes, 0, &mut heading)?;
+        let [hour, price, count] = heading;
+        let count = count as usize;
+        let mut places = [PacketLine::NONE; MOST_LINES];
+        let end = read_lines(bytes, from, &mut places[..count])?;
+        if end < bytes.len() {
+            return Err(ByteFault::Malformed(end as u32));
+        }
+        Ok(HourPacket {
+            hour: hour as u32,
+            price: price as u32,
+            places,
+            count,
+        })
     }
-    let mut read = [PacketLine::NONE; PLACES];
-    let heading = read_packet(bytes, &mut read)?;
-    lines[..heading.count].copy_from_slice(&read[..heading.count]);
-    Ok(heading)
+
+    pub fn hour(&self) -> u32
+        ensures { result ≡ self.now.hour }
+    {
+        self.hour
+    }
+
+    pub fn price(&self) -> u32
+        ensures { result ≡ self.now.price }
+    {
+        self.price
+    }
+
+    pub fn lines(&self) -> &[PacketLine]
+        ensures value { result.now ≡ self.now.lines }
+        ensures few { length result.now ≤ most_lines }
+    {
+        &self.places[..self.count]
+    }
+}
+
+/// Reads an hour packet into 64 places for lines or more. The places past its lines, and on a refusal all of them, stay as they were.
+pub fn read_hour(bytes: &[u8], lines: &mut [PacketLine]) -> Result<HourHeading, PacketFault>
+    ensures value { result ≡ heading_read (hour_read bytes.now lines.old) }
+    ensures lines { lines.new ≡ places_with (hour_read bytes.now lines.old) lines.old }
+    ensures few { IfOk result (λ heading. heading.count ≤ most_lines) }
+    ensures once { IfOk result (λ heading. HourSpelledOnce (hour_with heading lines.new) bytes.now) }
+{
+    if lines.len() < MOST_LINES {
+        return Err(PacketFault::WrongSize);
+    }
+    let packet = HourPacket::read(bytes)?;
+    let read = packet.lines();
+    lines[..read.len()].copy_from_slice(read);
+    Ok(HourHeading {
+        hour: packet.hour(),
+        price: packet.price(),
+        count: read.len(),
+    })
 }
 
 /// The figures before the lines.
@@ -152,7 +200,7 @@ fn heading_figures(hour: u32, price: u32, count: usize) -> [u64; 3]
 
 /// How many bytes an hour packet of these figures has.
 fn size_of_hour(hour: u32, price: u32, lines: &[PacketLine]) -> Result<usize, ByteFault>
-    ensures { result ≡ sized hour_format (hour_figures hour price lines.now) 0 }
+    ensures { result ≡ sized hour_format (hour_figures (packet_hour hour price lines.now)) 0 }
 {
     let mut end = check_row(&HEADING, &heading_figures(hour, price, lines.len()), 0)?;
     for line in lines {
@@ -163,8 +211,8 @@ fn size_of_hour(hour: u32, price: u32, lines: &[PacketLine]) -> Result<usize, By
 
 /// Writes an hour packet over the first bytes of an output that has room for it.
 fn put_hour(hour: u32, price: u32, lines: &[PacketLine], output: &mut [u8])
-    requires { length (spelled_all (hour_figures hour price lines.now)) ≤ length output.old }
-    ensures { output.new ≡ overwritten (spelled_all (hour_figures hour price lines.now)) output.old }
+    requires { length (hour_bytes (packet_hour hour price lines.now)) ≤ length output.old }
+    ensures { output.new ≡ overwritten (hour_bytes (packet_hour hour price lines.now)) output.old }
 {
     let mut at = write_row(&heading_figures(hour, price, lines.len()), output);
     for line in lines {
@@ -178,14 +226,15 @@ pub fn write_hour(
     price: u32,
     lines: &[PacketLine],
     output: &mut [u8],
-) -> Result<usize, ByteFault>
-    ensures value { result ≡ written hour_format (hour_figures hour price lines.now) output.old }
-    ensures output { output.new ≡ output_with hour_format (hour_figures hour price lines.now) output.old }
-    ensures back { IfOk result (λ size. HourReadsBack hour price lines.now (take size output.new)) }
+) -> Result<usize, PacketFault>
+    ensures value { result ≡ hour_written (packet_hour hour price lines.now) output.old }
+    ensures output { output.new ≡ hour_output (packet_hour hour price lines.now) output.old }
+    ensures back { let h : PacketHour = packet_hour hour price lines.now in
+        IfOk result (λ size. HourReadsBack h (take size output.new)) }
 {
     let end = size_of_hour(hour, price, lines)?;
     if output.len() < end {
-        return Err(ByteFault::WrongSize);
+        return Err(PacketFault::WrongSize);
     }
     put_hour(hour, price, lines, output);
     Ok(end)

@@ -9,6 +9,6 @@ mod statements;
 #[cfg(test)]
 mod tests;
 
-pub use faults::ByteFault;
-pub use hours::{HourHeading, PacketLine, read_hour, write_hour};
+pub use faults::{ByteFault, PacketFault};
+pub use hours::{HourHeading, HourPacket, PacketLine, read_hour, write_hour};
 pub use statements::{StatementFigures, read_statement, write_statement};

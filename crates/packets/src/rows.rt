@@ -1,6 +1,6 @@
 //! Rows of numbers, each within its limits.
-ghost use Rattle.std.specs.Prelude.{ℕ, ◌≡◌, ◌≤◌, ◌<◌, ◌+◌, ◌*◌, ◌^◌, IfOk, length, slice_index};
-ghost use Rattle.packets.specs.Formats.{figure_at, row, row_at, row_answer, closed, most_at, sized, spelled_all, within};
+ghost use Rattle.std.specs.Prelude.{ℕ, ◌≡◌, ◌≤◌, ◌<◌, ◌+◌, ◌*◌, ◌^◌, IfOk, OnOk, length, slice_index};
+ghost use Rattle.packets.specs.Formats.{figure_at, row, RowRead, closed, AtMost, sized, spelled_all, within};
 ghost use Rattle.packets.specs.Numbers.{overwritten};
 
 use crate::faults::ByteFault;
@@ -16,7 +16,7 @@ pub(crate) struct Limits {
 impl Limits {
     /// Whether a number is within the limits.
     fn has(self, value: u64) -> bool
-        ensures { result ≡ within self.least self.most value }
+        ensures { result ≡ within self value }
     {
         self.least <= value && value <= self.most
     }
@@ -26,7 +26,7 @@ impl Limits {
 fn read_figure(limits: Limits, bytes: &[u8], at: usize) -> Result<Number, ByteFault>
     requires near { at < 2 ^ 32 }
     requires among { at ≤ length bytes.now }
-    ensures value { result ≡ figure_at limits.least limits.most bytes.now at }
+    ensures value { result ≡ figure_at limits bytes.now at }
     ensures among { IfOk result (λ n. at + n.size ≤ length bytes.now) }
     ensures near { IfOk result (λ n. n.size ≤ 10) }
     ensures within { IfOk result (λ n. n.value ≤ limits.most) }
@@ -51,10 +51,10 @@ pub(crate) fn read_row(
     requires long { length figures.old ≡ length limits.now }
     requires near { from + 10 * length limits.now < 2 ^ 32 }
     requires among { from ≤ length bytes.now }
-    ensures value { row_answer figures.new result ≡ row_at limits.now bytes.now from }
+    ensures read { RowRead limits.now bytes.now from figures.new result }
     ensures near { IfOk result (λ end. end ≤ from + 10 * length limits.now) }
     ensures among { IfOk result (λ end. end ≤ length bytes.now) }
-    ensures within { IfOk result (λ _. (k : ℕ) → k < length limits.now → slice_index figures.new k ≤ most_at limits.now k) }
+    ensures within { OnOk result (AtMost limits.now figures.new) }
 {
     let mut at = from;
     for i in 0..limits.len() {

@@ -1,11 +1,11 @@
 //! Statement packets: the figures of an agent's month.
 ghost use Rattle.std.specs.Prelude.{ℕ, ◌≡◌, ◌≤◌, ◌<◌, ◌+◌, ◌+ℤ◌, ◌^◌, IfOk, Ok, length, slice_index, take, drop, ◌++◌};
 ghost use Rattle.std.specs.Int.{int_wrap, w64};
-ghost use Rattle.packets.specs.Formats.{sized, spelled_all, output_with, written};
+ghost use Rattle.packets.specs.Formats.{sized, output_with, written};
 ghost use Rattle.packets.specs.Numbers.{overwritten};
-ghost use Rattle.packets.specs.StatementPackets.{unsigned_of, signed_of, balance_of, closing_limits, statement_format, statement_figures, statement_of, statement_read, StatementSpelledOnce};
+ghost use Rattle.packets.specs.StatementPackets.{unsigned_of, signed_of, balance_of, closing_limits, statement_format, statement_figures, statement_bytes, statement_of, statement_read, StatementSpelledOnce};
 
-use crate::faults::ByteFault;
+use crate::faults::{ByteFault, PacketFault};
 use crate::rows::{Limits, check_row, read_row, write_row};
 
 /// Any number of 64 bits.
@@ -27,7 +27,6 @@ const OPENING: [Limits; 6] = [
 /// An agent's statement as a packet carries it: raw figures, any at all. The state is 0 for an open month and 1 for a closed one.
 #[derive(Clone, Copy, PartialEq, Eq, Debug)]
 pub struct StatementFigures {
-    // Kept as numbers, state and agent, by the rule that any figure is answered: one that no packet can hold is a fault to be told.
     pub state: u32,
     pub agent: u32,
     pub market: i64,
@@ -166,22 +165,22 @@ fn size_of_statement(figures: &StatementFigures) -> Result<usize, ByteFault>
 
 /// Writes a statement packet over the first bytes of an output that has room for it.
 fn put_statement(figures: &StatementFigures, output: &mut [u8])
-    requires { length (spelled_all (statement_figures figures.now)) ≤ length output.old }
-    ensures { output.new ≡ overwritten (spelled_all (statement_figures figures.now)) output.old }
+    requires { length (statement_bytes figures.now) ≤ length output.old }
+    ensures { output.new ≡ overwritten (statement_bytes figures.now) output.old }
 {
     let at = write_row(&figures.opening(), output);
     write_row(&figures.closing(), &mut output[at..]);
 }
 
 /// Writes a statement packet over the first bytes of an output, and answers how many those are. A refusal leaves the output as it was.
-pub fn write_statement(figures: &StatementFigures, output: &mut [u8]) -> Result<usize, ByteFault>
+pub fn write_statement(figures: &StatementFigures, output: &mut [u8]) -> Result<usize, PacketFault>
     ensures value { result ≡ written statement_format (statement_figures figures.now) output.old }
     ensures output { output.new ≡ output_with statement_format (statement_figures figures.now) output.old }
     ensures back { IfOk result (λ size. statement_read (take size output.new) ≡ Ok figures.now) }
 {
     let end = size_of_statement(figures)?;
     if output.len() < end {
-        return Err(ByteFault::WrongSize);
+        return Err(PacketFault::WrongSize);
     }
     put_statement(figures, output);
     Ok(end)

@@ -21,19 +21,20 @@ fn fault_of(bytes: &[u8]) -> Option<(u32, u32, bool)> {
     Some((fault.number(), fault.place(), places == [OLD; 64]))
 }
 
+// Cut off at a byte, no number that ends from there on, and bytes left over.
 #[test]
-fn cut_off_at_each_byte(rt: HostRuntime) {
+fn broken_at_each_byte(rt: HostRuntime) {
     for i in 0..30 {
-        assert_eq!(rt; fault_of(&HOUR[..i]), Some((17, STARTS[i], true)));
+        let fault = Some((17, STARTS[i], true));
+        assert_eq!(rt; fault_of(&HOUR[..i]), fault);
+        let mut endless = HOUR;
+        endless[i..].fill(0xFF);
+        assert_eq!(rt; fault_of(&endless), fault);
     }
-}
-
-#[test]
-fn bytes_left_over(rt: HostRuntime) {
-    let mut bytes = [0; 33];
-    bytes[..30].copy_from_slice(&HOUR);
+    let mut longer = [0; 33];
+    longer[..30].copy_from_slice(&HOUR);
     for long in 31..=33 {
-        assert_eq!(rt; fault_of(&bytes[..long]), Some((17, 30, true)));
+        assert_eq!(rt; fault_of(&longer[..long]), Some((17, 30, true)));
     }
 }
 
@@ -145,16 +146,6 @@ fn faults_in_the_longest_hour(rt: HostRuntime) {
     let mut longer = [0; 2252];
     longer[..2251].copy_from_slice(&bytes);
     assert_eq!(rt; fault_of(&longer), Some((17, 2251, true)));
-}
-
-// No number ends from a byte on.
-#[test]
-fn endless_from_each_byte(rt: HostRuntime) {
-    for i in 0..30 {
-        let mut damaged = HOUR;
-        damaged[i..].fill(0xFF);
-        assert_eq!(rt; fault_of(&damaged), Some((17, STARTS[i], true)));
-    }
 }
 
 // Whatever one byte is changed to, the packet is refused, from the number on that the byte is a part of, or it reads to other figures, which are written in these very bytes.

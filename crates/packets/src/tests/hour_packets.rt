@@ -1,6 +1,6 @@
 //! Hour packets. A line has class, cause, injected, withdrawn, gross, factor and cost, in this order.
 use super::BEFORE;
-use crate::{ByteFault, HourHeading, PacketLine, read_hour, write_hour};
+use crate::{ByteFault, HourHeading, HourPacket, PacketFault, PacketLine, read_hour, write_hour};
 
 /// What stands in places for lines before they are read into.
 pub(super) const OLD: PacketLine = PacketLine {
@@ -33,6 +33,17 @@ const SECOND: PacketLine = PacketLine {
     cost: 2_000_000,
 };
 
+/// A line of the largest figures.
+const MOST: PacketLine = PacketLine {
+    class: u32::MAX,
+    cause: u32::MAX,
+    injected: u32::MAX,
+    withdrawn: u32::MAX,
+    gross: u32::MAX,
+    factor: u32::MAX,
+    cost: u32::MAX,
+};
+
 /// Hour 8 at 60,000: the heading, and the two lines.
 pub(super) const HOUR: [u8; 30] = [
     0x08, 0xE0, 0xD4, 0x03, 0x02, //
@@ -53,30 +64,40 @@ pub(super) fn longest() -> [u8; 2251] {
 }
 
 /// What reading answers, and what it leaves of 64 places.
-pub(super) fn read(bytes: &[u8]) -> (Result<HourHeading, ByteFault>, [PacketLine; 64]) {
+pub(super) fn read(bytes: &[u8]) -> (Result<HourHeading, PacketFault>, [PacketLine; 64]) {
     let mut places = [OLD; 64];
     let answer = read_hour(bytes, &mut places);
     (answer, places)
 }
 
+/// The heading of the hour with so many lines.
+fn heading_of(count: usize) -> HourHeading {
+    HourHeading {
+        hour: 8,
+        price: 60_000,
+        count,
+    }
+}
+
 #[test]
 fn an_hour_reads(rt: HostRuntime) {
     let (answer, places) = read(&HOUR);
-    let heading = HourHeading {
-        hour: 8,
-        price: 60_000,
-        count: 2,
-    };
-    assert_eq!(rt; answer, Ok(heading));
-    assert_eq!(rt; places[0], FIRST);
-    assert_eq!(rt; places[1], SECOND);
+    assert_eq!(rt; answer, Ok(heading_of(2)));
+    assert_eq!(rt; &places[..2], [FIRST, SECOND].as_slice());
     assert_eq!(rt; &places[2..], [OLD; 62].as_slice());
+    let packet = HourPacket::read(&HOUR).expect(&rt, "the hour is a packet");
+    assert_eq!(rt; (packet.hour(), packet.price()), (8, 60_000));
+    assert_eq!(rt; packet.lines(), [FIRST, SECOND].as_slice());
+    assert_eq!(rt;
+        HourPacket::read(&HOUR[..29]).err(),
+        Some(ByteFault::Malformed(27))
+    );
 }
 
 // An output of so many bytes, and what writing the hour there answers.
 #[test]
 fn an_hour_is_written(rt: HostRuntime) {
-    let short = Err(ByteFault::WrongSize);
+    let short = Err(PacketFault::WrongSize);
     let cases = [
         (0, short),
         (29, short),
@@ -96,7 +117,7 @@ fn an_hour_is_written(rt: HostRuntime) {
         assert_eq!(rt; &output[..written], &HOUR[..written]);
         assert_eq!(rt; &output[written..], &[BEFORE; 40][written..]);
     }
-    let fault = ByteFault::WrongSize;
+    let fault = PacketFault::WrongSize;
     assert_eq!(rt; (fault.number(), fault.place()), (1, 0));
 }
 
@@ -109,37 +130,48 @@ fn lines_are_counted(rt: HostRuntime) {
         let lines = &lines[..count];
         assert_eq!(rt;
             write_hour(8, 60_000, lines, &mut []),
-            Err(ByteFault::WrongSize)
+            Err(PacketFault::WrongSize)
         );
         let mut output = [BEFORE; 650];
         assert_eq!(rt; write_hour(8, 60_000, lines, &mut output), Ok(size));
         assert_eq!(rt; &output[size..], &[BEFORE; 650][size..]);
         let (answer, places) = read(&output[..size]);
-        let heading = HourHeading {
-            hour: 8,
-            price: 60_000,
-            count,
-        };
-        assert_eq!(rt; answer, Ok(heading));
+        assert_eq!(rt; answer, Ok(heading_of(count)));
         assert_eq!(rt; &places[..count], lines);
         assert_eq!(rt; &places[count..], &[OLD; 64][count..]);
     }
 }
 
+// Numbers of places for lines, and whether they are enough: for an hour of two lines, and for one of 64. With too few, bytes that are no packet are not told.
 #[test]
-fn wrong_numbers_of_places(rt: HostRuntime) {
-    for count in [0, 1, 63, 65] {
-        assert!(rt; count <= 65);
-        let mut places = [OLD; 65];
+fn numbers_of_places(rt: HostRuntime) {
+    let full = longest();
+    let short = Err(PacketFault::WrongSize);
+    for count in [0, 1, 2, 63] {
+        assert!(rt; count <= 66);
+        let mut places = [OLD; 66];
+        for bytes in [HOUR.as_slice(), &full, &[]] {
+            assert_eq!(rt; read_hour(bytes, &mut places[..count]), short);
+        }
+        assert_eq!(rt; places, [OLD; 66]);
+    }
+    for count in [64, 65, 66] {
+        assert!(rt; count <= 66);
+        let mut places = [OLD; 66];
         assert_eq!(rt;
-            read_hour(&HOUR, &mut places[..count]),
-            Err(ByteFault::WrongSize)
+            read_hour(&[], &mut places[..count]).err(),
+            Some(PacketFault::Bytes(ByteFault::Malformed(0)))
         );
+        assert_eq!(rt; places, [OLD; 66]);
+        assert_eq!(rt; read_hour(&HOUR, &mut places[..count]), Ok(heading_of(2)));
+        assert_eq!(rt; &places[..2], [FIRST, SECOND].as_slice());
+        assert_eq!(rt; &places[2..], [OLD; 64].as_slice());
         assert_eq!(rt;
-            read_hour(&[], &mut places[..count]),
-            Err(ByteFault::WrongSize)
+            read_hour(&full, &mut places[..count]).map(|heading| heading.count),
+            Ok(64)
         );
-        assert_eq!(rt; places, [OLD; 65]);
+        assert_eq!(rt; &places[..64], [MOST; 64].as_slice());
+        assert_eq!(rt; &places[64..], [OLD; 2].as_slice());
     }
 }
 
@@ -154,7 +186,7 @@ fn no_lines_and_too_many(rt: HostRuntime) {
         (u32::MAX, u32::MAX, 10),
     ];
     for (hour, price, place) in cases {
-        let fault = Err(ByteFault::Malformed(place));
+        let fault = Err(PacketFault::Bytes(ByteFault::Malformed(place)));
         for count in [0, 65] {
             assert!(rt; count <= 65);
             let lines = &lines[..count];
@@ -168,25 +200,16 @@ fn no_lines_and_too_many(rt: HostRuntime) {
 
 #[test]
 fn the_longest_hour(rt: HostRuntime) {
-    let line = PacketLine {
-        class: u32::MAX,
-        cause: u32::MAX,
-        injected: u32::MAX,
-        withdrawn: u32::MAX,
-        gross: u32::MAX,
-        factor: u32::MAX,
-        cost: u32::MAX,
-    };
     let bytes = longest();
     let mut written = [BEFORE; 2255];
     written[..2251].copy_from_slice(&bytes);
     let mut output = [BEFORE; 2255];
     assert_eq!(rt;
-        write_hour(u32::MAX, u32::MAX, &[line; 64], &mut output[..2250]),
-        Err(ByteFault::WrongSize)
+        write_hour(u32::MAX, u32::MAX, &[MOST; 64], &mut output[..2250]),
+        Err(PacketFault::WrongSize)
     );
     assert_eq!(rt;
-        write_hour(u32::MAX, u32::MAX, &[line; 64], &mut output),
+        write_hour(u32::MAX, u32::MAX, &[MOST; 64], &mut output),
         Ok(2251)
     );
     assert_eq!(rt; output, written);
@@ -197,5 +220,5 @@ fn the_longest_hour(rt: HostRuntime) {
         count: 64,
     };
     assert_eq!(rt; answer, Ok(heading));
-    assert_eq!(rt; places, [line; 64]);
+    assert_eq!(rt; places, [MOST; 64]);
 }

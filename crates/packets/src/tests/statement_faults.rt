@@ -15,19 +15,20 @@ fn fault_of(bytes: &[u8]) -> Option<(u32, u32)> {
     Some((fault.number(), fault.place()))
 }
 
+// Cut off at a byte, no number that ends from there on, and bytes left over.
 #[test]
-fn cut_off_at_each_byte(rt: HostRuntime) {
+fn broken_at_each_byte(rt: HostRuntime) {
     for i in 0..19 {
-        assert_eq!(rt; fault_of(&BYTES[..i]), Some((17, STARTS[i])));
+        let fault = Some((17, STARTS[i]));
+        assert_eq!(rt; fault_of(&BYTES[..i]), fault);
+        let mut endless = BYTES;
+        endless[i..].fill(0xFF);
+        assert_eq!(rt; fault_of(&endless), fault);
     }
-}
-
-#[test]
-fn bytes_left_over(rt: HostRuntime) {
-    let mut bytes = [0; 22];
-    bytes[..19].copy_from_slice(&BYTES);
+    let mut longer = [0; 22];
+    longer[..19].copy_from_slice(&BYTES);
     for long in 20..=22 {
-        assert_eq!(rt; fault_of(&bytes[..long]), Some((17, 19)));
+        assert_eq!(rt; fault_of(&longer[..long]), Some((17, 19)));
     }
 }
 
@@ -167,16 +168,6 @@ fn faults_in_the_longest_statement(rt: HostRuntime) {
     let mut longer = [0; 93];
     longer[..92].copy_from_slice(&LONGEST_BYTES);
     assert_eq!(rt; fault_of(&longer), Some((17, 92)));
-}
-
-// No number ends from a byte on.
-#[test]
-fn endless_from_each_byte(rt: HostRuntime) {
-    for i in 0..19 {
-        let mut damaged = BYTES;
-        damaged[i..].fill(0xFF);
-        assert_eq!(rt; fault_of(&damaged), Some((17, STARTS[i])));
-    }
 }
 
 // Whatever one byte is changed to, the packet is refused, from the number on that the byte is a part of, or it reads to other figures, which are written in these very bytes.

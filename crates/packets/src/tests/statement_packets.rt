@@ -1,6 +1,6 @@
 //! Statement packets.
 use super::BEFORE;
-use crate::{ByteFault, StatementFigures, read_statement, write_statement};
+use crate::{ByteFault, PacketFault, StatementFigures, read_statement, write_statement};
 
 pub(super) const STATEMENT: StatementFigures = StatementFigures {
     state: 1,
@@ -96,7 +96,7 @@ pub(super) const SMALL_BYTES: [u8; 11] = [0, 1, 0, 0, 0, 0, 0, 0, 0, 0, 0];
 #[test]
 fn a_statement_is_written_and_read(rt: HostRuntime) {
     assert_eq!(rt; read_statement(&BYTES), Ok(STATEMENT));
-    let short = Err(ByteFault::WrongSize);
+    let short = Err(PacketFault::WrongSize);
     let cases = [
         (0, short),
         (18, short),
@@ -129,7 +129,7 @@ fn the_ends_are_written_and_read(rt: HostRuntime) {
         let mut output = [BEFORE; 95];
         assert_eq!(rt;
             write_statement(&figures, &mut output[..size - 1]),
-            Err(ByteFault::WrongSize)
+            Err(PacketFault::WrongSize)
         );
         assert_eq!(rt; write_statement(&figures, &mut output), Ok(size));
         assert_eq!(rt; &output[..size], bytes);
@@ -232,12 +232,12 @@ fn figures_that_no_packet_holds(rt: HostRuntime) {
         let mut output = [BEFORE; 50];
         assert_eq!(rt;
             write_statement(&figures, &mut output),
-            Err(ByteFault::Malformed(place))
+            Err(PacketFault::Bytes(ByteFault::Malformed(place)))
         );
         assert_eq!(rt; output, [BEFORE; 50]);
         assert_eq!(rt;
             write_statement(&figures, &mut []),
-            Err(ByteFault::Malformed(place))
+            Err(PacketFault::Bytes(ByteFault::Malformed(place)))
         );
     }
 }

@@ -1,41 +1,51 @@
-use Rattle.std.proofs.Common.{◌≡◌, ◌+◌, ◌-◌, ◌<◌, ◌≤◌, Ok, Err, length, take, set, ap, ◌∙◌, sym, arith, rules, length-set}
+use Rattle.std.proofs.Common.{◌≡◌, ◌+◌, ◌-◌, ◌<◌, ◌≤◌, ℕ, List, Ok, Err, length, take, set, ap, ◌∙◌, sym, subst, arith, rules, length-set}
 use Rattle.std.proofs.lemmas.List.{take_all}
-use Rattle.packets.specs.Formats.{Row, row_at, row_answer}
-use Rattle.packets.specs.HourPackets.{line_limits, lines_at, lines_answer}
-use Rattle.packets.proofs.HourSteps.{after_lines, lines_more, lines_fault, lines_done}
+use Rattle.packets.specs.Formats.{Over, and_then, before, whole, RowRead}
+use Rattle.packets.specs.HourPackets.{line_limits, lines_format, line_figures, lines_figures, LinesRead}
+use Rattle.packets.proofs.Formats.{before_none}
+use Rattle.packets.proofs.HourSteps.{lines_more, lines_fault, lines_done}
 use Rattle.packets.proofs.hours.read_lines.Goals as goal
 
-pub returns-in_err-at-clause-value : goal.returns-in_err-at-clause-value
-returns-in_err-at-clause-value c =
-    let i = c.loop-i.i in
+sub_zero : (n : ℕ) → n - 0 ≡ n
+sub_zero n = omega arith
+
+pub loop-i-init : goal.loop-i-init
+loop-i-init c = record {
+  read = rw (sub_zero (length c.args.lines.now)) (before_none (whole (lines_format (length c.args.lines.now)) c.args.bytes.now c.args.from));
+  near = omega arith;
+  among = c.requires.among;
+}
+
+pub returns-in_err-at-clause-read : goal.returns-in_err-at-clause-read
+returns-in_err-at-clause-read c =
     let n = length c.loop-i.lines in
-    let lt : i < n = omega (arith, c.loop-i.auto.lines) in
-    let is : c.from_residual.result ≡ Err c.in_err-at.field-0.0 = search rules in
-    let row : row_at line_limits c.args.bytes.now c.loop-i.at ≡ Err c.in_err-at.field-0.0 = sym c.read_row.ensures.value ∙ ap (row_answer c.read_row.new.figures) c.in_err-at.was in
-    ap (lines_answer c.loop-i.lines) is
-    ∙ sym (ap (λ k. lines_at k c.args.bytes.now c.args.from) (sym c.loop-i.auto.lines) ∙ c.loop-i.invariant.read ∙ lines_fault n i (take i c.loop-i.lines) c.args.bytes.now c.loop-i.at c.in_err-at.field-0.0 lt row)
+    let fault = c.in_err-at.field-0.0 in
+    let is : c.from_residual.result ≡ Err fault = search rules in
+    subst (LinesRead c.args.bytes.now c.args.from c.loop-i.lines) (sym is) (record {
+      goes_on = c.loop-i.invariant.read ∙ lines_fault n c.loop-i.i _ c.read_row.new.figures c.args.bytes.now c.loop-i.at fault (omega (arith, c.loop-i.auto.lines)) c.in_err-at.ensures.read;
+    })
 
 pub loop-i-preserved : goal.loop-i-preserved
 loop-i-preserved c =
     let i = c.loop-i.i in
     let lines = c.loop-i.lines in
     let bytes = c.args.bytes.now in
-    let n = length lines in
-    let lt : i < n = omega (arith, c.loop-i.auto.lines) in
-    let r : Row = record { figures = c.read_row.new.figures; end = c.in_ok-at.at } in
-    let row : row_at line_limits bytes c.loop-i.at ≡ Ok r = sym c.read_row.ensures.value ∙ ap (row_answer c.read_row.new.figures) c.in_ok-at.was in
-    let same : length (set lines i c.of.result) ≡ n = length-set lines i c.of.result in
+    let l = c.of.result in
+    let lt : i < length lines = omega (arith, c.loop-i.auto.lines) in
+    let row : RowRead line_limits bytes c.loop-i.at (line_figures l) (Ok c.in_ok-at.at) =
+    subst (λ (vs : List ℕ). RowRead line_limits bytes c.loop-i.at vs (Ok c.in_ok-at.at)) (sym c.of.ensures) c.in_ok-at.ensures.read in
     record {
-      read = ap (λ k. lines_at k bytes c.args.from) same ∙ c.loop-i.invariant.read ∙ lines_more n i lines bytes c.loop-i.at r lt lt row
-          ∙ ap (λ l. after_lines (take (i + 1) (set lines i l)) (lines_at (n - (i + 1)) bytes c.in_ok-at.at)) (sym c.of.ensures)
-          ∙ ap (λ k. after_lines (take (i + 1) (set lines i c.of.result)) (lines_at (k - (i + 1)) bytes c.in_ok-at.at)) (sym same);
+      read = rw (length-set lines i l) (c.loop-i.invariant.read ∙ lines_more (length lines) i lines bytes c.loop-i.at c.in_ok-at.at l lt lt row);
       near = omega (arith, c.in_ok-at.ensures.near);
       among = c.in_ok-at.ensures.among;
     }
 
-pub returns-clause-value : goal.returns-clause-value
-returns-clause-value c =
-    let n = length c.loop-i.lines in
-    let past : n ≤ c.loop-i.i = omega (arith, c.loop-i.auto.lines) in
-    sym (ap (λ k. lines_at k c.args.bytes.now c.args.from) (sym c.loop-i.auto.lines) ∙ c.loop-i.invariant.read ∙ lines_done n c.loop-i.i (take c.loop-i.i c.loop-i.lines) c.args.bytes.now c.loop-i.at past
-    ∙ ap (λ ls. lines_answer ls (Ok c.loop-i.at)) (take_all c.loop-i.i c.loop-i.lines past))
+pub returns-clause-read : goal.returns-clause-read
+returns-clause-read c =
+    let i = c.loop-i.i in
+    let lines = c.loop-i.lines in
+    let past : length lines ≤ i = omega (arith, c.loop-i.auto.lines) in
+    record {
+      goes_on = c.loop-i.invariant.read ∙ lines_done (length lines) i (take i lines) c.args.bytes.now c.loop-i.at past
+          ∙ ap (λ ls. and_then (whole Over c.args.bytes.now c.loop-i.at) (before (lines_figures ls))) (take_all i lines past);
+    }

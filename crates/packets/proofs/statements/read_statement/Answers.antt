@@ -1,53 +1,50 @@
-use Rattle.std.proofs.Common.{◌≡◌, ℕ, Ok, Err, List, ◌++◌, ap, ◌∙◌, sym, subst, rules}
-use Rattle.packets.specs.Formats.{and_then, whole, Row, row_at, row_answer, Spells}
+use Rattle.std.proofs.Common.{◌≡◌, ℕ, Result, Ok, Err, List, ◌++◌, ap, ◌∙◌, sym, subst, arith, rules}
+use Rattle.std.proofs.lemmas.List.{length-append}
+use Rattle.packets.specs.declared.faults.ByteFault.{ByteFault}
+use Rattle.packets.specs.declared.rows.Limits.{Limits}
+use Rattle.packets.specs.declared.statements.StatementFigures.{StatementFigures}
+use Rattle.packets.specs.Formats.{and_then, whole, RowRead, Spells}
 use Rattle.packets.specs.StatementPackets.{opening_limits, closing_limits, statement_format, statement_figures, statement_of}
-use Rattle.packets.proofs.Promises.{spells}
-use Rattle.packets.proofs.StatementSteps.{no_opening, no_closing, statement_left_over, statement_whole, figures_counted, figures_back}
+use Rattle.packets.proofs.Formats.{spells}
+use Rattle.packets.proofs.StatementSteps.{statement_opening, statement_closing, statement_left_over, statement_whole, figures_back}
 use Rattle.packets.proofs.statements.read_statement.Goals as goal
+
+-- the statement of figures that were read, or the fault of the bytes
+abbrev stated : Result (List ℕ) ByteFault → Result StatementFigures ByteFault
+stated w = and_then w (λ figures. Ok (statement_of figures))
+
+-- a row of which the limits are known by an equation
+row_by : {limits other : List Limits} (bytes : List ℕ) (at : ℕ) (figures : List ℕ) (r : Result ℕ ByteFault) → other ≡ limits → RowRead other bytes at figures r → RowRead limits bytes at figures r
+row_by bytes at figures r is read = subst (λ ls. RowRead ls bytes at figures r) is read
 
 pub returns-in_err-middle-clause-value : goal.returns-in_err-middle-clause-value
 returns-in_err-middle-clause-value c =
-    let row : row_at opening_limits c.args.bytes.now 0 ≡ Err c.in_err-middle.field-0.0 = sym c.read_row.ensures.value ∙ ap (row_answer c.read_row.new.figures) c.in_err-middle.was in
     let is : c.from_residual.result ≡ Err c.in_err-middle.field-0.0 = search rules in
-    is ∙ sym (ap (λ w. and_then w (λ figures. Ok (statement_of figures))) (no_opening c.args.bytes.now c.in_err-middle.field-0.0 row))
+    is ∙ sym (ap stated (statement_opening c.args.bytes.now _ _ c.in_err-middle.ensures.read))
 
 pub returns-in_err-end-clause-value : goal.returns-in_err-end-clause-value
 returns-in_err-end-clause-value c =
-    let bytes = c.args.bytes.now in
-    let r : Row = record { figures = c.read_row.new.figures; end = c.in_ok-middle.middle } in
-    let row : row_at opening_limits bytes 0 ≡ Ok r = sym c.read_row.ensures.value ∙ ap (row_answer r.figures) c.in_ok-middle.was in
-    let closing : row_at (closing_limits r.figures) bytes r.end ≡ Err c.in_err-end.field-0.0 =
-    ap (λ limits. row_at limits bytes r.end) (sym c.closing.ensures) ∙ sym c.read_row-2.ensures.value ∙ ap (row_answer c.read_row-2.new.figures) c.in_err-end.was in
     let is : c.from_residual-in_err-end.result ≡ Err c.in_err-end.field-0.0 = search rules in
-    is ∙ sym (ap (λ w. and_then w (λ figures. Ok (statement_of figures))) (no_closing bytes r c.in_err-end.field-0.0 row closing))
+    let second = row_by c.args.bytes.now _ _ _ c.closing.ensures c.in_err-end.ensures.read in
+    is ∙ sym (ap stated (statement_closing c.args.bytes.now _ _ _ _ c.in_ok-middle.ensures.read second))
 
 pub returns-then-end-bytes-clause-value : goal.returns-then-end-bytes-clause-value
 returns-then-end-bytes-clause-value c =
-    let bytes = c.args.bytes.now in
-    let r : Row = record { figures = c.read_row.new.figures; end = c.in_ok-middle.middle } in
-    let q : Row = record { figures = c.read_row-2.new.figures; end = c.in_ok-end.end } in
-    let row : row_at opening_limits bytes 0 ≡ Ok r = sym c.read_row.ensures.value ∙ ap (row_answer r.figures) c.in_ok-middle.was in
-    let closing : row_at (closing_limits r.figures) bytes r.end ≡ Ok q =
-    ap (λ limits. row_at limits bytes r.end) (sym c.closing.ensures) ∙ sym c.read_row-2.ensures.value ∙ ap (row_answer q.figures) c.in_ok-end.was in
-    sym (ap (λ w. and_then w (λ figures. Ok (statement_of figures))) (statement_left_over bytes r q row closing c.if-end-bytes.true))
+    let second = row_by c.args.bytes.now _ _ _ c.closing.ensures c.in_ok-end.ensures.read in
+    sym (ap stated (statement_left_over c.args.bytes.now _ _ _ _ c.in_ok-middle.ensures.read second c.if-end-bytes.true))
 
--- all of the packet, and how many figures it has
-known : (c : goal.After-of) → (whole statement_format c.args.bytes.now 0 ≡ Ok (c.read_row.new.figures ++ c.read_row-2.new.figures)) × (statement_figures (statement_of (c.read_row.new.figures ++ c.read_row-2.new.figures)) ≡ c.read_row.new.figures ++ c.read_row-2.new.figures)
+-- all of the packet
+known : (c : goal.After-of) → whole statement_format c.args.bytes.now 0 ≡ Ok (c.read_row.new.figures ++ c.read_row-2.new.figures)
 known c =
-    let bytes = c.args.bytes.now in
-    let r : Row = record { figures = c.read_row.new.figures; end = c.in_ok-middle.middle } in
-    let q : Row = record { figures = c.read_row-2.new.figures; end = c.in_ok-end.end } in
-    let row : row_at opening_limits bytes 0 ≡ Ok r = sym c.read_row.ensures.value ∙ ap (row_answer r.figures) c.in_ok-middle.was in
-    let closing : row_at (closing_limits r.figures) bytes r.end ≡ Ok q =
-    ap (λ limits. row_at limits bytes r.end) (sym c.closing.ensures) ∙ sym c.read_row-2.ensures.value ∙ ap (row_answer q.figures) c.in_ok-end.was in
-    (statement_whole bytes r q row closing c.if-end-bytes.false, figures_back (r.figures ++ q.figures) (figures_counted bytes r q row closing))
+    let second = row_by c.args.bytes.now _ _ _ c.closing.ensures c.in_ok-end.ensures.read in
+    statement_whole c.args.bytes.now _ _ _ _ c.in_ok-middle.ensures.read second c.if-end-bytes.false
 
 pub returns-clause-value : goal.returns-clause-value
-returns-clause-value c = ap Ok c.of.ensures ∙ sym (ap (λ w. and_then w (λ figures. Ok (statement_of figures))) ((known c).0))
+returns-clause-value c = ap Ok c.of.ensures ∙ sym (ap stated (known c))
 
 pub returns-clause-once : goal.returns-clause-once
 returns-clause-once c =
     let figures = c.read_row.new.figures ++ c.read_row-2.new.figures in
     let P : List ℕ → Type 0 = λ vs. Spells statement_format vs c.args.bytes.now in
-    let same : statement_figures c.of.result ≡ figures = ap statement_figures c.of.ensures ∙ (known c).1 in
-    subst P (sym same) (spells statement_format figures c.args.bytes.now c.type_inv.bytes ((known c).0))
+    let same : statement_figures c.of.result ≡ figures = ap statement_figures c.of.ensures ∙ figures_back figures (omega (arith, length-append c.read_row.new.figures c.read_row-2.new.figures)) in
+    subst P (sym same) (spells statement_format figures c.args.bytes.now c.type_inv.bytes (known c))

@@ -1,6 +1,6 @@
 use Rattle.std.proofs.Common.{take, ap, ◌∙◌, sym, arith}
 use Rattle.packets.specs.StatementPackets.{statement_format, statement_figures, statement_read}
-use Rattle.packets.proofs.Promises.{sized_end, output_ok}
+use Rattle.packets.proofs.Formats.{sized_end, output_ok}
 use Rattle.packets.proofs.StatementSteps.{statement_written}
 use Rattle.packets.proofs.statements.write_statement.Goals as goal
 
