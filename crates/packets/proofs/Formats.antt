@@ -5,7 +5,6 @@ use Rattle.std.proofs.lemmas.List.{append_assoc, take_at, drop-drop, drop_at, dr
 use Rattle.std.proofs.lemmas.Bool.Decides.{nat_tests}
 use Rattle.packets.specs.declared.faults.ByteFault.{ByteFault}
 use Rattle.packets.specs.declared.faults.ByteFault.TheVariants.{Malformed}
-use Rattle.packets.specs.declared.faults.PacketFault.{PacketFault}
 use Rattle.packets.specs.declared.faults.PacketFault.TheVariants.{WrongSize}
 use Rattle.packets.specs.declared.numbers.Number.{Number}
 use Rattle.packets.specs.declared.rows.Limits.{Limits}

@@ -1,5 +1,5 @@
 -- An hour packet's heading and lines, read, checked and written. Assumes nothing.
-use Rattle.std.proofs.Common.{◌≡◌, ℕ, zero, suc, ◌+◌, ◌-◌, ◌<◌, ◌≤◌, true, cond, ltb, List, [], ◌∷◌, ◌++◌, length, take, drop, get_or, set, slice_index, Result, Ok, Err, refl, sym, ap, ◌∙◌, arith}
+use Rattle.std.proofs.Common.{◌≡◌, ℕ, suc, ◌+◌, ◌-◌, ◌<◌, ◌≤◌, true, cond, ltb, List, [], ◌∷◌, ◌++◌, length, take, drop, get_or, set, slice_index, Result, Ok, Err, refl, sym, ap, ◌∙◌, arith}
 use Rattle.std.specs.List.{flat_map}
 use Rattle.std.proofs.lemmas.Grind.{flat_map-append}
 use Rattle.std.proofs.lemmas.List.{take_more_set, append-nil, append_assoc, drop_all, at_drop_more}
@@ -13,9 +13,9 @@ use Rattle.packets.specs.declared.rows.Limits.{Limits}
 use Rattle.packets.specs.Faults.{of_bytes}
 use Rattle.packets.specs.Formats.{Over, and_then, before, whole, sized, spelled_all, row, closed, RowRead, within}
 use Rattle.packets.specs.Hours.{PacketHour, packet_hour, most_lines}
-use Rattle.packets.specs.HourPackets.{narrow, heading_limits, line_limits, lines_format, hour_format, LinesRead, line_figures, line_of, lines_figures, hour_figures, hour_of, hour_in, lines_of, hour_read, HourReadsBack}
-use Rattle.packets.specs.Numbers.{spelled, overwritten}
-use Rattle.packets.proofs.Formats.{before_before, cond_ok, over_some, over_none, whole_written}
+use Rattle.packets.specs.HourPackets.{narrow, heading_limits, line_limits, lines_format, hour_format, LinesRead, line_figures, lines_figures, hour_figures, hour_of, hour_in, lines_of, hour_read, HourReadsBack}
+use Rattle.packets.specs.Numbers.{spelled}
+use Rattle.packets.proofs.Formats.{before_before, cond_ok, over_some, over_none}
 use Rattle.packets.proofs.RowSteps.{sized_row, pieces_next, listed}
 
 -- ---- reading

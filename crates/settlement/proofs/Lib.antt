@@ -8,4 +8,3 @@ pub mod ContractLines
 pub mod Even
 pub mod Points
 pub mod Powers
-pub mod Packets

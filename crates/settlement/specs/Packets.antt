@@ -1,9 +1,10 @@
 -- The posting that an hour packet says. Assumes nothing.
-use Rattle.std.specs.Prelude.{ℕ, List, map, drop, take, Ok, Err, Result, slice_index}
+use Rattle.std.specs.Prelude.{ℕ, List, map, take, Ok, Err, Result}
 use Rattle.packets.specs.declared.faults.ByteFault.{ByteFault}
 use Rattle.packets.specs.declared.hours.PacketLine.{PacketLine}
-use Rattle.packets.specs.Formats.{and_then, whole}
-use Rattle.packets.specs.HourPackets.{hour_format, lines_of}
+use Rattle.packets.specs.Formats.{and_then}
+use Rattle.packets.specs.Hours.{PacketHour}
+use Rattle.packets.specs.HourPackets.{hour_in}
 use Rattle.settlement.specs.declared.faults.LineFault.{LineFault}
 use Rattle.settlement.specs.declared.faults.LineFault.TheVariants.{Packet}
 use Rattle.settlement.specs.declared.lines.Line.{Line}
@@ -22,17 +23,13 @@ line_in l = record {
   cost = l.cost;
 }
 
--- what the figures of a packet say: hour and price, and after the number of lines the lines
-abbrev pub posting_by : List ℕ → Posting
-posting_by figures = record {
-  hour = slice_index figures 0;
-  price = slice_index figures 1;
-  lines = map line_in (lines_of (slice_index figures 2) (drop 3 figures));
-}
+-- the posting that the hour of a packet is
+abbrev pub posting_by : PacketHour → Posting
+posting_by h = record { hour = h.hour; price = h.price; lines = map line_in h.lines }
 
 -- what bytes say: the posting of the packet that they are, or the fault of bytes that are no packet
 abbrev pub posting_in : List ℕ → Result Posting ByteFault
-posting_in bytes = and_then (whole hour_format bytes 0) (λ figures. Ok (posting_by figures))
+posting_in bytes = and_then (hour_in bytes) (λ h. Ok (posting_by h))
 
 -- a fault of the bytes is carried whole
 abbrev pub of_bytes : Result Posting ByteFault → Result Posting LineFault

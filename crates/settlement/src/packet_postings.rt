@@ -6,7 +6,7 @@ use crate::faults::LineFault;
 use crate::lines::Line;
 use crate::postings::Posting;
 use forms::MOST_AGENTS;
-use packets::{PacketLine, read_hour};
+use packets::{HourPacket, PacketLine};
 
 /// How many lines a packet has at most: one for each agent of a book.
 const MOST_LINES: usize = MOST_AGENTS as usize;
@@ -61,15 +61,15 @@ impl PacketPosting {
     pub fn read(bytes: &[u8]) -> Result<PacketPosting, LineFault>
         ensures { posting_read result ≡ of_bytes (posting_in bytes.now) }
     {
-        let mut read = [PacketLine::NONE; MOST_LINES];
-        let heading = read_hour(bytes, &mut read)?;
+        let packet = HourPacket::read(bytes)?;
+        let read = packet.lines();
         let mut lines = [Line::from(PacketLine::NONE); MOST_LINES];
-        PacketPosting::fill_lines(&read, &mut lines);
+        PacketPosting::fill_lines(read, &mut lines[..read.len()]);
         Ok(PacketPosting {
-            hour: heading.hour,
-            price: heading.price,
+            hour: packet.hour(),
+            price: packet.price(),
             lines,
-            count: heading.count,
+            count: read.len(),
         })
     }
 

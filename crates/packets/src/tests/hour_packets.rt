@@ -1,4 +1,6 @@
 //! Hour packets. A line has class, cause, injected, withdrawn, gross, factor and cost, in this order.
+ghost use Rattle.std.specs.Prelude.{◌≤◌};
+
 use super::BEFORE;
 use crate::{ByteFault, HourHeading, HourPacket, PacketFault, PacketLine, read_hour, write_hour};
 
@@ -142,36 +144,44 @@ fn lines_are_counted(rt: HostRuntime) {
     }
 }
 
-// Numbers of places for lines, and whether they are enough: for an hour of two lines, and for one of 64. With too few, bytes that are no packet are not told.
+/// What reading answers that is lent so many places, and what it leaves of 66.
+fn read_into(bytes: &[u8], count: usize) -> (Result<HourHeading, PacketFault>, [PacketLine; 66])
+    requires { count ≤ 66 }
+{
+    let mut places = [OLD; 66];
+    let answer = read_hour(bytes, &mut places[..count]);
+    (answer, places)
+}
+
+// With too few places for lines all is refused, also bytes that are no packet. With more than enough, those past the lines stay.
 #[test]
 fn numbers_of_places(rt: HostRuntime) {
     let full = longest();
-    let short = Err(PacketFault::WrongSize);
+    let mut two = [OLD; 66];
+    two[0] = FIRST;
+    two[1] = SECOND;
+    let mut all = [MOST; 66];
+    all[64] = OLD;
+    all[65] = OLD;
     for count in [0, 1, 2, 63] {
         assert!(rt; count <= 66);
-        let mut places = [OLD; 66];
         for bytes in [HOUR.as_slice(), &full, &[]] {
-            assert_eq!(rt; read_hour(bytes, &mut places[..count]), short);
+            let (answer, places) = read_into(bytes, count);
+            assert_eq!(rt; answer, Err(PacketFault::WrongSize));
+            assert_eq!(rt; places, [OLD; 66]);
         }
-        assert_eq!(rt; places, [OLD; 66]);
     }
     for count in [64, 65, 66] {
         assert!(rt; count <= 66);
-        let mut places = [OLD; 66];
-        assert_eq!(rt;
-            read_hour(&[], &mut places[..count]).err(),
-            Some(PacketFault::Bytes(ByteFault::Malformed(0)))
-        );
+        let (answer, places) = read_into(&[], count);
+        assert_eq!(rt; answer, Err(PacketFault::Bytes(ByteFault::Malformed(0))));
         assert_eq!(rt; places, [OLD; 66]);
-        assert_eq!(rt; read_hour(&HOUR, &mut places[..count]), Ok(heading_of(2)));
-        assert_eq!(rt; &places[..2], [FIRST, SECOND].as_slice());
-        assert_eq!(rt; &places[2..], [OLD; 64].as_slice());
-        assert_eq!(rt;
-            read_hour(&full, &mut places[..count]).map(|heading| heading.count),
-            Ok(64)
-        );
-        assert_eq!(rt; &places[..64], [MOST; 64].as_slice());
-        assert_eq!(rt; &places[64..], [OLD; 2].as_slice());
+        let (answer, places) = read_into(&HOUR, count);
+        assert_eq!(rt; answer, Ok(heading_of(2)));
+        assert_eq!(rt; places, two);
+        let (answer, places) = read_into(&full, count);
+        assert_eq!(rt; answer.map(|heading| heading.count), Ok(64));
+        assert_eq!(rt; places, all);
     }
 }
 

@@ -1,4 +1,4 @@
-use Rattle.std.proofs.Common.{◌≡◌, ◌+◌, ◌-◌, ◌<◌, ◌≤◌, ℕ, List, Ok, Err, length, take, set, ap, ◌∙◌, sym, subst, arith, rules, length-set}
+use Rattle.std.proofs.Common.{◌≡◌, ◌-◌, ◌<◌, ◌≤◌, ℕ, List, Ok, Err, length, take, ap, ◌∙◌, sym, subst, arith, rules, length-set}
 use Rattle.std.proofs.lemmas.List.{take_all}
 use Rattle.packets.specs.Formats.{Over, and_then, before, whole, RowRead}
 use Rattle.packets.specs.HourPackets.{line_limits, lines_format, line_figures, lines_figures, LinesRead}

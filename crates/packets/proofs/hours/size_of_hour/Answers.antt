@@ -1,4 +1,4 @@
-use Rattle.std.proofs.Common.{◌≡◌, ◌+◌, Ok, Err, length, drop, ap, ◌∙◌, sym, arith, rules}
+use Rattle.std.proofs.Common.{◌≡◌, Err, length, ap, ◌∙◌, sym, arith, rules}
 use Rattle.packets.specs.Formats.{sized, row, closed}
 use Rattle.packets.specs.Hours.{packet_hour}
 use Rattle.packets.specs.HourPackets.{heading_limits}

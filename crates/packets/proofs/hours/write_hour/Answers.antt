@@ -1,4 +1,4 @@
-use Rattle.std.proofs.Common.{List, ℕ, ap, ◌∙◌, sym, arith, subst, take}
+use Rattle.std.proofs.Common.{List, ℕ, ◌∙◌, sym, arith, subst, take}
 use Rattle.packets.specs.Hours.{packet_hour}
 use Rattle.packets.specs.HourPackets.{hour_format, hour_figures, HourReadsBack}
 use Rattle.packets.proofs.Formats.{sized_end, whole_written}

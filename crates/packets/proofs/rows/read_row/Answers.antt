@@ -1,4 +1,4 @@
-use Rattle.std.proofs.Common.{◌≡◌, ◌<◌, ◌≢◌, Ok, Err, get_or, take, length, ap, ◌∙◌, sym, subst, arith, rules, below_more}
+use Rattle.std.proofs.Common.{◌≡◌, ◌<◌, ◌≢◌, Err, take, length, ap, ◌∙◌, sym, subst, arith, rules, below_more}
 use Rattle.std.proofs.lemmas.List.{take_all, get_or-set_same, get_or-set_other}
 use Rattle.packets.specs.Formats.{and_then, before, whole, row, RowRead}
 use Rattle.packets.proofs.Formats.{before_none}

@@ -4,7 +4,7 @@ use Rattle.packets.specs.declared.faults.ByteFault.{ByteFault}
 use Rattle.packets.specs.declared.rows.Limits.{Limits}
 use Rattle.packets.specs.declared.statements.StatementFigures.{StatementFigures}
 use Rattle.packets.specs.Formats.{and_then, whole, RowRead, Spells}
-use Rattle.packets.specs.StatementPackets.{opening_limits, closing_limits, statement_format, statement_figures, statement_of}
+use Rattle.packets.specs.StatementPackets.{statement_format, statement_figures, statement_of}
 use Rattle.packets.proofs.Formats.{spells}
 use Rattle.packets.proofs.StatementSteps.{statement_opening, statement_closing, statement_left_over, statement_whole, figures_back}
 use Rattle.packets.proofs.statements.read_statement.Goals as goal

@@ -1,16 +1,18 @@
-use Rattle.std.proofs.Common.{List, map, take, Result, Ok, ap, ◌∙◌}
-use Rattle.packets.specs.Formats.{whole}
-use Rattle.packets.specs.HourPackets.{hour_format}
+use Rattle.std.proofs.Common.{◌≡◌, ℕ, List, map, length, Result, Ok, ap, ◌∙◌}
+use Rattle.std.proofs.lemmas.List.{length-map, take_at}
+use Rattle.packets.specs.Formats.{and_then}
 use Rattle.settlement.specs.declared.faults.LineFault.{LineFault}
 use Rattle.settlement.specs.declared.lines.Line.{Line}
-use Rattle.settlement.specs.Packets.{line_in}
+use Rattle.settlement.specs.Packets.{line_in, posting_by, of_bytes}
 use Rattle.settlement.specs.Posting.{Posting}
-use Rattle.settlement.proofs.Packets.{read_posting}
 use Rattle.settlement.proofs.packet_postings.PacketPosting.read.Goals as goal
 
 pub returns : goal.returns
 returns c =
-    let heading = c.in_ok-heading.heading in
-    let posted : List Line → Result Posting LineFault = λ lines. Ok (record { hour = heading.hour; price = heading.price; lines = take heading.count lines }) in
-    ap posted (c.fill_lines.ensures ∙ ap (map line_in) c.in_ok-heading.ensures.lines)
-    ∙ read_posting (whole hour_format c.args.bytes.now 0) _ heading c.in_ok-heading.ensures.value
+    let packet = c.in_ok-packet.packet in
+    let read = c.lines-read.result.now in
+    let posted : ℕ → ℕ → List Line → Result Posting LineFault = λ hour price lines. Ok (record { hour = hour; price = price; lines = lines }) in
+    let is : c.fill_lines.new.lines ≡ map line_in packet.lines = c.fill_lines.ensures ∙ ap (map line_in) c.lines-read.ensures.value in
+    ap (posted c.hour.result c.price.result) (take_at c.fill_lines.new.lines _ (length read) (ap length c.fill_lines.ensures ∙ length-map read line_in) ∙ is)
+    ∙ (λ k. posted (c.hour.ensures k) (c.price.ensures k) (map line_in packet.lines))
+    ∙ ap (λ w. of_bytes (and_then w (λ h. Ok (posting_by h)))) c.in_ok-packet.ensures.value
