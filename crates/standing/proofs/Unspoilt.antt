@@ -4,7 +4,7 @@ use Rattle.std.specs.Option.{option_map}
 use Rattle.std.proofs.Common.{◌≡◌, ℕ, Bool, true, false, cond, not, ◌||◌, eqb, ltb, List, [], ◌∷◌, Some, None, Option, refl}
 use Rattle.std.proofs.lemmas.Bool.{and_from}
 use Rattle.packets.specs.declared.faults.ByteFault.{ByteFault}
-use Rattle.packets.specs.declared.faults.ByteFault.TheVariants.{WrongSize, Malformed}
+use Rattle.packets.specs.declared.faults.ByteFault.TheVariants.{Malformed}
 use Rattle.forms.specs.declared.Contract.{Contract}
 use Rattle.forms.specs.Meaning.{Meaning}
 use Rattle.settlement.specs.declared.faults.BookFault.{BookFault}
@@ -41,7 +41,6 @@ told_of f (Some x) each = each x
 
 -- a fault of bytes
 of_bytes : (fault : ByteFault) → Fine (Some (Posting (Packet fault)))
-of_bytes WrongSize = record { is = refl }
 of_bytes (Malformed place) = record { is = refl }
 
 -- a fault of a posting's own figures
