@@ -3,7 +3,6 @@ ghost use Rattle.std.specs.Prelude.{◌<◌, ◌≤◌};
 ghost use Rattle.calendar.specs.Limits.{most_days, hours_of};
 
 use crate::bands::Band;
-use crate::bands::table::band_of;
 use crate::calendars::Calendar;
 use crate::limits::MOST_DAYS;
 use crate::weekdays::Weekday;
@@ -58,14 +57,14 @@ impl HourStamp {
     pub fn weekday(&self) -> Weekday
         ensures { result ≡ weekday_in self.now.calendar self.now.hour }
     {
-        Weekday::at_number((self.calendar.weekday % 7 + self.hour / 24) % 7)
+        self.calendar.weekday_at(self.hour)
     }
 
     /// Its band.
     pub fn band(&self) -> Band
         ensures { result ≡ band_in self.now.calendar self.now.hour }
     {
-        band_of(self.weekday(), self.hour_of_day())
+        self.calendar.band_at(self.hour)
     }
 
     /// The place of this hour's entry of the agent at `index`, where entries lie agent after agent.

@@ -46,7 +46,10 @@ fn hours_of_a_month(rt: HostRuntime) -> Result<(), Fail> {
         (u32::MAX, 24 + 7, Weekday::Friday, 7, Band::Medium),
     ];
     for (first, hour, weekday, hour_of_day, band) in cases {
-        let Some(stamp) = HourStamp::new(hour, 31, Calendar { weekday: first }) else {
+        let calendar = Calendar { weekday: first };
+        assert_eq!(rt; calendar.weekday_at(hour), weekday);
+        assert_eq!(rt; calendar.band_at(hour), band);
+        let Some(stamp) = HourStamp::new(hour, 31, calendar) else {
             return Err(Fail::new("outside the month"));
         };
         assert_eq!(rt; stamp.weekday(), weekday);
