@@ -1,10 +1,11 @@
 -- Only what stands, asked of a book at its opening: all of it is done, and the same stands. Assumes nothing.
 use Rattle.std.specs.List.{list_all}
 use Rattle.std.specs.Option.{option_map}
-use Rattle.std.proofs.Common.{◌≡◌, ℕ, zero, suc, ◌+◌, ◌-◌, ◌<◌, true, cond, not, ◌&&◌, ◌||◌, eqb, ltb, leb, List, [], ◌∷◌, ◌++◌, length, get_or, set, replicate, is_some, Some, None, Option, sym, refl, ap, ◌∙◌, subst, inl, inr, arith}
+use Rattle.std.proofs.Common.{◌≡◌, ℕ, zero, suc, ◌+◌, ◌-◌, ◌<◌, true, cond, not, ◌&&◌, ◌||◌, eqb, ltb, leb, List, [], ◌∷◌, ◌++◌, length, get_or, set, replicate, is_some, Some, None, Option, sym, refl, ap, ◌∙◌, subst, arith}
 use Rattle.std.proofs.lemmas.List.{append_assoc, length_push, get_or_at, set_at}
 use Rattle.std.proofs.lemmas.List.Sorted.{IsPermutation-refl}
-use Rattle.std.proofs.lemmas.Bool.{le-leb, lt-ltb, le-ltb, eq-eqb, ne_eqb, cases_eq, cases_order, and_parts, and_from, cond-true, cond-false}
+use Rattle.std.proofs.lemmas.Bool.Decides.{nat_tests}
+use Rattle.std.proofs.lemmas.Bool.{le-leb, lt-ltb, le-ltb, and_parts, and_from, cond-true, cond-false}
 use Rattle.tally.specs.Failing.{first_failing}
 use Rattle.tally.proofs.Failing.{first_failing_same, first_failing_none}
 use Rattle.forms.specs.declared.Contract.{Contract}
@@ -122,25 +123,14 @@ module _ (form : Meaning) (o : Opening) where
     with_more hour = λ t. record { posted = λ h. here h t; places = s.places; state = Open }
       where
         here : (h : ℕ) → cond (eqb h hour) (s.posted hour) (cond (ltb h hour) (s.posted h) None) ≡ cond (ltb h (hour + 1)) (s.posted h) None
-        here h = elim (cases_order h hour) [
-          | inl is ↦ cond-true _ _ _ (eq-eqb h hour is) ∙ ap s.posted (sym is) ∙ sym (cond-true _ _ _ (lt-ltb h (hour + 1) (omega arith)))
-          | inr (inl before) ↦
-              cond-false _ _ _ (ne_eqb h hour (λ e. omega arith)) ∙ cond-true _ _ _ (lt-ltb h hour before)
-              ∙ sym (cond-true _ _ _ (lt-ltb h (hour + 1) (omega arith)))
-          | inr (inr past) ↦
-              cond-false _ _ _ (ne_eqb h hour (λ e. omega arith)) ∙ cond-false _ _ _ (le-ltb h hour (omega arith))
-              ∙ sym (cond-false _ _ _ (le-ltb h (hour + 1) (omega arith)))
-        ]
+        here h = grind (arith, nat_tests)
 
     -- the next hour is free
     with_none : (hour : ℕ) → up_to hour ≡ standing_with hour None (up_to hour)
     with_none hour = λ t. record { posted = λ h. here h t; places = s.places; state = Open }
       where
         here : (h : ℕ) → cond (ltb h hour) (s.posted h) None ≡ cond (eqb h hour) None (cond (ltb h hour) (s.posted h) None)
-        here h = elim (cases_eq h hour) [
-          | inl is ↦ cond-false _ _ _ (le-ltb h hour (omega arith)) ∙ sym (cond-true _ _ _ (eq-eqb h hour is))
-          | inr apart ↦ sym (cond-false _ _ _ (ne_eqb h hour apart))
-        ]
+        here h = grind (arith, nat_tests)
 
     -- what stands at an hour comes to stand there again
     posting_lead : (hour : ℕ) → hour < hours_in o → (q : Option Posting) → s.posted hour ≡ q → Leads form o (up_to hour) (posting_at q) (up_to (hour + 1))
