@@ -9,7 +9,7 @@ ghost use Rattle.settlement.specs.Lines.{line_within};
 
 use crate::holdings::Holding;
 use crate::lines::{Class, Line};
-use tally::{Energy, Money, Pair};
+use tally::{Energy, Money, MoneyLine, Pair, Tally};
 use valuation::{amount, excess};
 
 /// A line with its hour's price, both within their limits.
@@ -75,12 +75,10 @@ impl PricedLine<'_> {
         let spent = amount(line.withdrawn, line.factor, self.price) as i64;
         let overcost = self.excess() as i64 - (caused + carried) as i64;
         Pair {
-            first: Money {
-                market: earned - spent,
-                contract: 0,
+            first: Money::alone(MoneyLine::Market, earned - spent).join(Money::alone(
+                MoneyLine::Overcost,
                 overcost,
-                power: 0,
-            },
+            )),
             second: Energy {
                 injected: u64::from(line.injected),
                 withdrawn: u64::from(line.withdrawn),

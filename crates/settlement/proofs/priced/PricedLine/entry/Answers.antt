@@ -1,18 +1,27 @@
-use Rattle.std.proofs.Common.{◌+◌, arith, rules}
+use Rattle.std.proofs.Common.{◌+◌, ℤ, pos, ◌-ℤ◌, refl, ◌∙◌, arith, rules}
+use lib.IntN.{+ℤ_idl, +ℤ_idr}
+use Rattle.tally.specs.declared.money.MoneyLine.TheVariants.{Market, Overcost}
 use Rattle.tally.specs.EnergyLaws.{energy_same}
-use Rattle.tally.specs.MoneyLaws.{money_each}
+use Rattle.tally.specs.Lines.{no_lines, alone}
+use Rattle.tally.specs.Money.{money_of, money_joined}
+use Rattle.tally.specs.MoneyLaws.{money_of_joined}
 use Rattle.tally.proofs.PairLaws.{pair_same}
-use Rattle.settlement.proofs.Differences.{difference, nothing}
+use Rattle.settlement.specs.Hour.{market_line, excess_on}
+use Rattle.settlement.proofs.Differences.{difference}
 use Rattle.settlement.proofs.priced.PricedLine.entry.Goals as goal
 
 pub returns : goal.returns
 returns c =
+    let price = c.args.self.now.price in
+    let line = c.args.self.now.line.now in
+    let market : ℤ = market_line price line in
+    let overcost : ℤ = pos (excess_on price line) -ℤ pos (c.args.caused + c.args.carried) in
+    let earned = difference _ _ _ _ c.amount-earned.ensures.value c.amount-spent.ensures.value (omega (arith, c.amount-earned.ensures.bound)) (omega (arith, c.amount-spent.ensures.bound)) in
+    let spare = difference _ _ _ _ c.excess.ensures.value (λ i. c.args.caused + c.args.carried) (omega (arith, c.excess.ensures.bound)) (omega (arith, c.requires.caused_within, c.requires.carried_within)) in
     pair_same _ _
-    (money_each _ _
-    (difference _ _ _ _ c.amount-earned.ensures.value c.amount-spent.ensures.value
-    (omega (arith, c.amount-earned.ensures.bound)) (omega (arith, c.amount-spent.ensures.bound)))
-    nothing
-    (difference _ _ _ _ c.excess.ensures.value (λ i. c.args.caused + c.args.carried)
-    (omega (arith, c.excess.ensures.bound)) (omega (arith, c.requires.caused_within, c.requires.carried_within)))
-    nothing)
+    (c.join.ensures
+    ∙ (λ t. money_joined (c.alone.ensures t) (c.alone-2.ensures t))
+    ∙ (λ t. money_joined (money_of (alone Market (earned t))) (money_of (alone Overcost (spare t))))
+    ∙ money_of_joined (alone Market market) (alone Overcost overcost)
+    ∙ (λ t. money_of (record no_lines { market = +ℤ_idr market t; overcost = +ℤ_idl overcost t })))
     (energy_same _ _ (search rules) (search rules))
