@@ -5,7 +5,7 @@ use Rattle.std.proofs.lemmas.List.FromFn.{fill_by_all}
 use Rattle.std.proofs.lemmas.List.{get_or-set_same, get_or-set_other}
 use Rattle.std.proofs.lemmas.Bool.{cases_eq, eq-eqb, ne_eqb, lt-ltb, le-ltb, and_from, and_left, and_right}
 use Rattle.std.proofs.lemmas.Bool.Decides.{nat_tests}
-use Rattle.settlement.proofs.Sums.{map_counting_same}
+use Rattle.tally.proofs.Numbers.{map_counting_same}
 use Rattle.book.specs.Rewriting.{entry_place, account_with, entries_with, accounts_with}
 use Rattle.settlement.specs.Holdings.{Holding, no_holding}
 

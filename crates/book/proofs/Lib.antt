@@ -1,3 +1,2 @@
 pub mod Columns
 pub mod Tables
-pub mod Covered

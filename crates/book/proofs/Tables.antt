@@ -1,16 +1,21 @@
 -- Tables of faults, and what a call comes to by them. Assumes nothing.
 use Rattle.std.proofs.Common.{◌≡◌, ◌*◌, ◌≤◌, Bool, true, false, ◌||◌, eqb, List, [], ◌∷◌, length, Some, None, Ok, Err, Option, sym, refl, ap, ◌∙◌}
 use Rattle.std.specs.List.{list_all}
-use Rattle.std.proofs.lemmas.Bool.{and_parts, not-false, eqb-true, leb-true}
+use Rattle.std.proofs.lemmas.Bool.{and_parts, eqb-true, leb-true}
 use Rattle.forms.specs.Meaning.{Meaning}
 use Rattle.settlement.specs.declared.faults.BookFault.{BookFault}
+use Rattle.settlement.specs.declared.faults.BookFault.TheVariants.{WrongSize, StoredOutside}
+use Rattle.forms.specs.Limits.{most_contracts}
+use Rattle.valuation.specs.Limits.{most_energy}
 use Rattle.settlement.specs.Agents.{agent_fits}
 use Rattle.settlement.specs.ContractFaults.{place_fits}
+use Rattle.settlement.specs.Holdings.{all_withdrawn}
+use Rattle.settlement.specs.Limits.{most_month_energy}
 use Rattle.settlement.specs.Faults.{met_if, first_met}
-use Rattle.settlement.proofs.Measured.{unmet}
+use Rattle.settlement.proofs.FaultTables.{kept, first_met_none}
 use Rattle.book.specs.declared.months.MonthFigures.{MonthFigures}
-use Rattle.book.specs.Memory.{Memory, sized, stored_fits, mark_fits, energy_within, all_withdrawn, contract_places, most_hour_energy, most_month_energy, size_fault, stored_fault, memory_fault}
-use Rattle.book.specs.Months.{hours_of}
+use Rattle.book.specs.Memory.{Memory, setting_in, sized, stored_fits, mark_fits, energy_within, size_fault, stored_fault, memory_fault}
+use Rattle.calendar.specs.Limits.{hours_of}
 use Rattle.book.specs.Outcomes.{outcome, outcome_of}
 
 -- a row that is not met is passed over
@@ -22,12 +27,6 @@ next_row (Some g) rest answer none is = cc
 pub this_row : {F : Type 0} (a : Option F) (rest : List (Option F)) (fault : F) → Some fault ≡ a → first_met (a ∷ rest) ≡ Some fault
 this_row None rest fault met = cc
 this_row (Some g) rest fault met = sym met
-
--- neither of two rows is met
-both_unmet : {F : Type 0} (a b : Option F) → None ≡ first_met (a ∷ b ∷ []) → (None ≡ a) × (None ≡ b)
-both_unmet None None none = (refl, refl)
-both_unmet None (Some g) none = (cc, cc)
-both_unmet (Some g) b none = (cc, cc)
 
 -- a row of two tests, where the first was looked at alone
 pub first_meets : {F : Type 0} (a b : Bool) (fault met : F) → Some met ≡ met_if a fault → Some met ≡ met_if (a || b) fault
@@ -48,7 +47,7 @@ accepted met x before after memory is holds = ap (outcome_of (Ok x)) holds ∙ s
 pub record Sized (f : MonthFigures) (m : Memory) : Type 0 where
   pub agents_long : length m.agents ≡ f.agents
   pub accounts_long : length m.accounts ≡ f.agents
-  pub contracts_long : length m.contracts ≡ contract_places
+  pub contracts_long : length m.contracts ≡ most_contracts
   pub marks_long : length m.marks ≡ hours_of f.days
   pub entries_long : length m.entries ≡ f.agents * hours_of f.days
 
@@ -56,7 +55,7 @@ pub sized_parts : (f : MonthFigures) (m : Memory) → sized f m ≡ true → Siz
 sized_parts f m is =
     let agents = and_parts (eqb (length m.agents) f.agents) _ is in
     let accounts = and_parts (eqb (length m.accounts) f.agents) _ agents.1 in
-    let contracts = and_parts (eqb (length m.contracts) contract_places) _ accounts.1 in
+    let contracts = and_parts (eqb (length m.contracts) most_contracts) _ accounts.1 in
     let marks = and_parts (eqb (length m.marks) (hours_of f.days)) _ contracts.1 in
     record {
       agents_long = eqb-true _ _ agents.0;
@@ -66,22 +65,22 @@ sized_parts f m is =
       entries_long = eqb-true _ _ marks.1;
     }
 
--- the memory of a month that no fault of memory was found in
-pub record Checked (form : Meaning) (f : MonthFigures) (m : Memory) : Type 0 where
+-- the memory of a month that no fault of memory is met in
+pub record MemoryFits (form : Meaning) (f : MonthFigures) (m : Memory) : Type 0 where
   pub sizes : Sized f m
-  pub contracts_fit : list_all (place_fits form (hours_of f.days) m.agents) m.contracts ≡ true
+  pub contracts_fit : list_all (place_fits (setting_in form f m)) m.contracts ≡ true
   pub withdrawn_within : all_withdrawn m.accounts ≤ most_month_energy
 
-pub checked : (form : Meaning) (f : MonthFigures) (m : Memory) → None ≡ memory_fault form f m → Checked form f m
-checked form f m none =
-    let both = both_unmet (size_fault f m) (stored_fault form f m) none in
-    let agents = and_parts (list_all agent_fits m.agents) _ (not-false (stored_fits form f m) (unmet _ _ both.1)) in
-    let contracts = and_parts (list_all (place_fits form (hours_of f.days) m.agents) m.contracts) _ agents.1 in
+pub memory_fits : (form : Meaning) (f : MonthFigures) (m : Memory) → None ≡ memory_fault form f m → MemoryFits form f m
+memory_fits form f m none =
+    let rows = first_met_none (size_fault f m ∷ stored_fault form f m ∷ []) (sym none) in
+    let agents = and_parts (list_all agent_fits m.agents) _ (kept (stored_fits form f m) StoredOutside rows.1.0) in
+    let contracts = and_parts (list_all (place_fits (setting_in form f m)) m.contracts) _ agents.1 in
     let marks = and_parts (list_all mark_fits m.marks) _ contracts.1 in
-    let entries = and_parts (list_all (energy_within most_hour_energy) m.entries) _ marks.1 in
+    let entries = and_parts (list_all (energy_within most_energy) m.entries) _ marks.1 in
     let accounts = and_parts (list_all (energy_within most_month_energy) m.accounts) _ entries.1 in
     record {
-      sizes = sized_parts f m (not-false (sized f m) (unmet _ _ both.0));
+      sizes = sized_parts f m (kept (sized f m) WrongSize rows.0);
       contracts_fit = contracts.0;
       withdrawn_within = leb-true _ _ accounts.1;
     }

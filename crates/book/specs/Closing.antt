@@ -1,23 +1,23 @@
 -- Closing a month. Assumes nothing.
-use Rattle.std.specs.Prelude.{ℕ, [], ◌∷◌, List, map, length, Option, slice_index_or}
+use Rattle.std.specs.Prelude.{ℕ, [], ◌∷◌, List, map, length, Option}
 use Rattle.std.specs.List.{range_with_len}
 use Rattle.std.specs.Option.{option_map}
+use Rattle.tally.specs.Failing.{first_failing}
+use Rattle.calendar.specs.Limits.{hours_of}
 use Rattle.forms.specs.Meaning.{Meaning}
-use Rattle.settlement.specs.declared.agents.Agent.{Agent}
 use Rattle.settlement.specs.declared.faults.BookFault.{BookFault}
 use Rattle.settlement.specs.declared.faults.BookFault.TheVariants.{MissingHour, NoPowerCarrier}
 use Rattle.settlement.specs.Faults.{met_if, first_met}
-use Rattle.settlement.specs.Holdings.{Holding, no_holding, holding_joined, withdrawn_on, power_points}
-use Rattle.settlement.specs.Power.{power_uncarried, power_line}
-use Rattle.settlement.specs.Sums.{first_failing}
+use Rattle.settlement.specs.Holdings.{withdrawn_on}
+use Rattle.settlement.specs.Power.{power_uncarried, charged_at}
 use Rattle.book.specs.declared.months.MonthFigures.{MonthFigures}
 use Rattle.book.specs.Memory.{Memory, is_posted, memory_fault}
-use Rattle.book.specs.Months.{hours_of}
 use Rattle.book.specs.Outcomes.{Outcome, outcome}
 
 -- 10: the first hour of a month of so many at which nothing stands
 abbrev pub missing_fault : (hours : ℕ) → (marks : List ℕ) → Option BookFault
-missing_fault hours marks = option_map (λ hour. MissingHour hour) (first_failing (is_posted marks) 0 hours)
+missing_fault hours marks =
+    option_map (λ hour. MissingHour hour) (first_failing (is_posted marks) 0 hours)
 
 -- the faults of a closing: an hour is missing, and at last that power is due and nothing carries it
 abbrev pub close_fault : Meaning → MonthFigures → Memory → Option BookFault
@@ -25,15 +25,11 @@ close_fault form f m =
     first_met (memory_fault form f m ∷ missing_fault (hours_of f.days) m.marks
     ∷ met_if (power_uncarried m.agents (withdrawn_on m.accounts)) NoPowerCarrier ∷ [])
 
--- the accounts with each agent's power line
-abbrev pub accounts_charged : List Agent → List Holding → List Holding
-accounts_charged agents accounts =
-    map (λ i. holding_joined (slice_index_or accounts i no_holding) (power_points (power_line agents (withdrawn_on accounts) i)))
-    (range_with_len 0 (length accounts))
-
 -- every account gains its power line
 abbrev pub charged : Memory → Memory
-charged m = record m { accounts = accounts_charged m.agents m.accounts }
+charged m = record m {
+  accounts = map (charged_at m.agents m.accounts) (range_with_len 0 (length m.accounts));
+}
 
 abbrev pub closed : Meaning → MonthFigures → Memory → Outcome MonthFigures
 closed form f m = outcome (close_fault form f m) f m (charged m)

@@ -3,27 +3,27 @@ use Rattle.std.specs.Prelude.{ℕ, ◌-◌, [], ◌∷◌, Some, None, Option, s
 use Rattle.forms.specs.declared.Contract.{Contract}
 use Rattle.forms.specs.Meaning.{Meaning}
 use Rattle.settlement.specs.declared.faults.BookFault.{BookFault}
-use Rattle.settlement.specs.ContractFaults.{taken_fault, vacant_fault, terms_fault, covered_fault, covered_in, place_at}
+use Rattle.settlement.specs.ContractFaults.{taken_fault, vacant_fault, contract_fault, covered_fault, covered_in, place_at}
 use Rattle.settlement.specs.Faults.{first_met}
 use Rattle.book.specs.declared.months.MonthFigures.{MonthFigures}
-use Rattle.book.specs.Memory.{Memory, is_posted, memory_fault}
-use Rattle.book.specs.Months.{hours_of}
+use Rattle.book.specs.Memory.{Memory, is_posted, setting_in, memory_fault}
 use Rattle.book.specs.Outcomes.{Outcome, outcome}
 
 -- memory with another content of a contract place
 abbrev pub placed : (number : ℕ) → Option Contract → Memory → Memory
 placed number c m = record m { contracts = slice_set m.contracts (number - 1) c }
 
--- the faults of entering a contract: its number, what it says, and at last that a covered hour stands
-abbrev pub enter_fault : Meaning → MonthFigures → (number : ℕ) → Contract → Memory → Option BookFault
+-- the faults of entering a contract: its number, what it says, and at last a covered hour that
+-- stands
+abbrev pub enter_fault : Meaning → MonthFigures → ℕ → Contract → Memory → Option BookFault
 enter_fault form f number c m =
     first_met (memory_fault form f m ∷ taken_fault m.contracts number
-    ∷ terms_fault form (hours_of f.days) m.agents c ∷ covered_fault (is_posted m.marks) c ∷ [])
+    ∷ contract_fault (setting_in form f m) c ∷ covered_fault (is_posted m.marks) c ∷ [])
 
-abbrev pub entered : Meaning → MonthFigures → (number : ℕ) → Contract → Memory → Outcome (Unit {0})
+abbrev pub entered : Meaning → MonthFigures → ℕ → Contract → Memory → Outcome (Unit {0})
 entered form f number c m = outcome (enter_fault form f number c m) tt m (placed number (Some c) m)
 
--- the faults of cancelling one: its number, and at last that a covered hour stands
+-- the faults of cancelling one: its number, and at last a covered hour that stands
 abbrev pub cancel_fault : Meaning → MonthFigures → (number : ℕ) → Memory → Option BookFault
 cancel_fault form f number m =
     first_met (memory_fault form f m ∷ vacant_fault m.contracts number

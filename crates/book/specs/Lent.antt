@@ -9,7 +9,8 @@ use Rattle.book.specs.Memory.{Memory, memory_of}
 
 -- all memory, of a ledger with agents and contract places
 abbrev pub memory_with : List Agent → List (Option Contract) → Ledger → Memory
-memory_with agents contracts ledger = memory_of agents ledger.accounts.now contracts ledger.marks.now ledger.entries.now
+memory_with agents contracts ledger =
+    memory_of agents ledger.accounts.now contracts ledger.marks.now ledger.entries.now
 
 -- all memory, of a pool and the ledger that belongs to it
 abbrev pub memory_in : Pool → Ledger → Memory
@@ -17,7 +18,9 @@ memory_in pool ledger = memory_with pool.agents.now pool.contracts.now ledger
 
 -- all memory, as it is looked into
 abbrev pub memory_seen : View → Memory
-memory_seen view = memory_of view.pool.agents.now view.accounts.now view.pool.contracts.now view.marks.now view.entries.now
+memory_seen view =
+    memory_of view.pool.agents.now view.accounts.now view.pool.contracts.now view.marks.now
+    view.entries.now
 
 -- a ledger lends the same places as before
 abbrev pub SameLoan : (before after : Ledger) → Type 0

@@ -1,20 +1,25 @@
 -- The memory of a book that the host lends, and what a call finds wrong in it. Assumes nothing.
-use Rattle.std.specs.Prelude.{ℕ, ◌*◌, Bool, not, ◌&&◌, List, [], ◌∷◌, length, sum_by, Option, ◌==◌, nat_le, slice_index}
+use Rattle.std.specs.Prelude.{ℕ, ◌*◌, Bool, not, ◌&&◌, List, [], ◌∷◌, length, Option, ◌==◌, nat_le, slice_index}
 use Rattle.std.specs.List.{list_all}
+use Rattle.calendar.specs.Limits.{hours_of}
 use Rattle.forms.specs.declared.Contract.{Contract}
+use Rattle.forms.specs.Limits.{most_contracts}
 use Rattle.forms.specs.Meaning.{Meaning}
+use Rattle.valuation.specs.Limits.{most_energy}
 use Rattle.settlement.specs.declared.agents.Agent.{Agent}
 use Rattle.settlement.specs.declared.faults.BookFault.{BookFault}
 use Rattle.settlement.specs.declared.faults.BookFault.TheVariants.{WrongSize, StoredOutside}
 use Rattle.settlement.specs.Agents.{agent_fits}
 use Rattle.settlement.specs.ContractFaults.{place_fits}
 use Rattle.settlement.specs.Faults.{met_if, first_met}
-use Rattle.settlement.specs.Holdings.{Holding}
+use Rattle.settlement.specs.Holdings.{Holding, all_withdrawn}
+use Rattle.settlement.specs.Limits.{most_month_energy}
+use Rattle.settlement.specs.Setting.{Setting}
 use Rattle.book.specs.declared.months.MonthFigures.{MonthFigures}
-use Rattle.book.specs.Months.{hours_of, most_days}
+use Rattle.book.specs.Months.{setting_with}
 
--- all memory of a book: a record and an account per agent, the contract places, a mark per hour, and an entry per agent and hour,
--- agent after agent
+-- all memory of a book: a record and an account per agent, the contract places, a mark per hour,
+-- and an entry per agent and hour, agent after agent
 pub record Memory : Type 0 where
   pub agents : List Agent
   pub accounts : List Holding
@@ -23,7 +28,8 @@ pub record Memory : Type 0 where
   pub entries : List Holding
 
 -- all memory, from its parts
-abbrev pub memory_of : List Agent → List Holding → List (Option Contract) → List ℕ → List Holding → Memory
+abbrev pub memory_of :
+    List Agent → List Holding → List (Option Contract) → List ℕ → List Holding → Memory
 memory_of agents accounts contracts marks entries = record {
   agents = agents;
   accounts = accounts;
@@ -36,27 +42,18 @@ memory_of agents accounts contracts marks entries = record {
 abbrev pub is_posted : List ℕ → ℕ → Bool
 is_posted marks hour = not (slice_index marks hour == 0)
 
--- ---- its size
+-- what the hours of a month of these figures are settled with
+abbrev pub setting_in : Meaning → MonthFigures → Memory → Setting
+setting_in form f m = setting_with form f m.agents m.contracts
 
--- the contract places of a book
-abbrev pub contract_places : ℕ
-contract_places = 64
+-- ---- what may be wrong with it
 
--- the memory of a book of these figures
+-- memory of the size of a book of these figures
 abbrev pub sized : MonthFigures → Memory → Bool
 sized f m =
-    (length m.agents == f.agents) && (length m.accounts == f.agents && (length m.contracts == contract_places
-    && (length m.marks == hours_of f.days && length m.entries == f.agents * hours_of f.days)))
-
--- ---- its figures
-
--- the most energy of an entry, in kWh
-abbrev pub most_hour_energy : ℕ
-most_hour_energy = 4000000
-
--- the most energy of an account, and of all withdrawn energy together
-abbrev pub most_month_energy : ℕ
-most_month_energy = hours_of most_days * most_hour_energy
+    (length m.agents == f.agents) && (length m.accounts == f.agents
+    && (length m.contracts == most_contracts && (length m.marks == hours_of f.days
+    && length m.entries == f.agents * hours_of f.days)))
 
 -- a mark is 0, free, or 1, posted
 abbrev pub mark_fits : ℕ → Bool
@@ -64,21 +61,18 @@ mark_fits mark = nat_le mark 1
 
 -- energies of at most so many kWh
 abbrev pub energy_within : ℕ → Holding → Bool
-energy_within most holding = nat_le holding.second.injected most && nat_le holding.second.withdrawn most
+energy_within most holding =
+    nat_le holding.second.injected most && nat_le holding.second.withdrawn most
 
--- the withdrawn energy of all accounts
-abbrev pub all_withdrawn : List Holding → ℕ
-all_withdrawn accounts = sum_by (λ account. account.second.withdrawn) accounts
-
--- stored figures are within their limits: agents, contracts by the test of an entry, marks, and the energies of entries, of accounts, and so of
--- all withdrawn energy together
+-- stored figures are within their limits: agents, contracts by the test of an entry, marks, and the
+-- energies of entries, those of an hour, of accounts, those of a month, and so of all withdrawn
+-- energy together
 abbrev pub stored_fits : Meaning → MonthFigures → Memory → Bool
 stored_fits form f m =
-    list_all agent_fits m.agents && (list_all (place_fits form (hours_of f.days) m.agents) m.contracts
-    && (list_all mark_fits m.marks && (list_all (energy_within most_hour_energy) m.entries
-    && (list_all (energy_within most_month_energy) m.accounts && nat_le (all_withdrawn m.accounts) most_month_energy))))
-
--- ---- its faults
+    list_all agent_fits m.agents && (list_all (place_fits (setting_in form f m)) m.contracts
+    && (list_all mark_fits m.marks && (list_all (energy_within most_energy) m.entries
+    && (list_all (energy_within most_month_energy) m.accounts
+    && nat_le (all_withdrawn m.accounts) most_month_energy))))
 
 -- 1: memory of the wrong size
 abbrev pub size_fault : MonthFigures → Memory → Option BookFault

@@ -1,47 +1,56 @@
--- The month, open or closed: its figures and its hours. Assumes nothing.
-use Rattle.std.specs.Prelude.{ℕ, ◌*◌, Bool, ◌&&◌, Ok, Err, Result, nat_le}
+-- The month, open or closed: its figures. Assumes nothing.
+use Rattle.std.specs.Prelude.{ℕ, Bool, ◌&&◌, List, Ok, Err, Option, Result, nat_le}
+use Rattle.calendar.specs.Limits.{most_days}
+use Rattle.calendar.specs.declared.calendars.Calendar.{Calendar}
+use Rattle.forms.specs.declared.Contract.{Contract}
+use Rattle.forms.specs.Limits.{most_agents}
+use Rattle.forms.specs.Meaning.{Meaning}
+use Rattle.settlement.specs.declared.agents.Agent.{Agent}
 use Rattle.settlement.specs.declared.faults.BookFault.{BookFault}
+use Rattle.settlement.specs.Setting.{Setting}
 use Rattle.book.specs.declared.months.Extent.{Extent}
 use Rattle.book.specs.declared.months.OpenMonth.{OpenMonth}
 use Rattle.book.specs.declared.months.ClosedMonth.{ClosedMonth}
 use Rattle.book.specs.declared.months.MonthFigures.{MonthFigures}
 
 -- the figures of a month to be opened
-abbrev pub month_figures : (agents days weekday : ℕ) → MonthFigures
-month_figures agents days weekday = record { agents = agents; days = days; weekday = weekday }
+abbrev pub month_figures : (agents days : ℕ) → Calendar → MonthFigures
+month_figures agents days calendar = record { agents = agents; days = days; calendar = calendar }
 
 -- the figures of a month as it is looked at
 abbrev pub figures_in : Extent → MonthFigures
-figures_in month = month_figures month.agents month.days month.weekday
+figures_in month = month_figures month.agents month.days month.calendar
 
 -- those of an open month, and of a closed one
 abbrev pub figures_of : OpenMonth → MonthFigures
-figures_of month = month_figures month.agents month.days month.weekday
+figures_of month = month_figures month.agents month.days (record { weekday = month.weekday })
 
 abbrev pub closed_figures_of : ClosedMonth → MonthFigures
-closed_figures_of month = month_figures month.agents month.days month.weekday
+closed_figures_of month = month_figures month.agents month.days (record { weekday = month.weekday })
 
 -- an opening's answer, by the figures of the month that it gives
 abbrev pub opened_as : {F : Type 0} → Result OpenMonth F → Result MonthFigures F
 opened_as (Ok month) = Ok (figures_of month)
 opened_as (Err fault) = Err fault
 
--- a closing's answer, by the figures of the month that it gives: where it is refused, the open month comes back beside the fault
+-- a closing's answer, by the figures of the month that it gives: where it is refused, the open
+-- month comes back beside the fault
 abbrev pub closed_as : Result ClosedMonth (OpenMonth × BookFault) → Result MonthFigures BookFault
 closed_as (Ok month) = Ok (closed_figures_of month)
 closed_as (Err back) = Err back.1
 
--- the hours of so many days
-abbrev pub hours_of : ℕ → ℕ
-hours_of days = 24 * days
+-- what the hours of a month of these figures are settled with
+abbrev pub setting_with : Meaning → MonthFigures → List Agent → List (Option Contract) → Setting
+setting_with form f agents places = record {
+  form = form;
+  calendar = f.calendar;
+  days = f.days;
+  agents = agents;
+  places = places;
+}
 
--- the most agents of a book, and the most days of a month
-abbrev pub most_agents : ℕ
-most_agents = 64
-
-abbrev pub most_days : ℕ
-most_days = 31
-
--- 1 to 64 agents, 1 to 31 days
+-- a book has an agent at least, and a month a day
 abbrev pub size_known : MonthFigures → Bool
-size_known f = nat_le 1 f.agents && (nat_le f.agents most_agents && (nat_le 1 f.days && nat_le f.days most_days))
+size_known f =
+    nat_le 1 f.agents && (nat_le f.agents most_agents
+    && (nat_le 1 f.days && nat_le f.days most_days))

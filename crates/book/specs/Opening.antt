@@ -1,6 +1,7 @@
 -- Opening a month. Assumes nothing.
-use Rattle.std.specs.Prelude.{not, ◌||◌, [], ◌∷◌, length, replicate, None, Option, nat_lt}
+use Rattle.std.specs.Prelude.{not, ◌||◌, [], ◌∷◌, length, replicate, None, Option}
 use Rattle.std.specs.List.{list_all}
+use Rattle.calendar.specs.Calendar.{calendar_fits}
 use Rattle.settlement.specs.declared.faults.BookFault.{BookFault}
 use Rattle.settlement.specs.declared.faults.BookFault.TheVariants.{OutsideBook}
 use Rattle.settlement.specs.Agents.{agent_fits}
@@ -11,11 +12,13 @@ use Rattle.book.specs.Memory.{Memory, size_fault}
 use Rattle.book.specs.Months.{size_known}
 use Rattle.book.specs.Outcomes.{Outcome, outcome}
 
--- the faults of an opening: agents or days, then the memory's size, then the weekday or an agent's figures
+-- the faults of an opening: agents or days, then the memory's size, then the calendar or an agent's
+-- figures
 abbrev pub open_fault : MonthFigures → Memory → Option BookFault
 open_fault f m =
+    let outside = not (calendar_fits f.calendar) || not (list_all agent_fits m.agents) in
     first_met (met_if (not (size_known f)) OutsideBook ∷ size_fault f m
-    ∷ met_if (nat_lt 6 f.weekday || not (list_all agent_fits m.agents)) OutsideBook ∷ [])
+    ∷ met_if outside OutsideBook ∷ [])
 
 -- all lines, energies, marks and contract places empty
 abbrev pub emptied : Memory → Memory

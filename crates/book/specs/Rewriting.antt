@@ -19,10 +19,12 @@ abbrev pub account_with : (account old new : Holding) → Holding
 account_with account old new = holding_joined (holding_joined account (holding_undone old)) new
 
 -- the accounts then
-abbrev pub accounts_with : (hours hour : ℕ) → (new : ℕ → Holding) → (entries accounts : List Holding) → List Holding
+abbrev pub accounts_with :
+    (hours hour : ℕ) → (new : ℕ → Holding) → (entries accounts : List Holding) → List Holding
 accounts_with hours hour new entries accounts =
-    map (λ i. account_with (slice_index_or accounts i no_holding) (slice_index_or entries (entry_place hours i hour) no_holding) (new i))
-    (range_with_len 0 (length accounts))
+    let account = λ (i : ℕ). slice_index_or accounts i no_holding in
+    let old = λ (i : ℕ). slice_index_or entries (entry_place hours i hour) no_holding in
+    map (λ i. account_with (account i) (old i) (new i)) (range_with_len 0 (length accounts))
 
 -- memory with an hour written anew, under its mark
 abbrev pub rewritten : (hours hour mark : ℕ) → (new : ℕ → Holding) → Memory → Memory

@@ -1,10 +1,12 @@
 -- The statement of an agent, of a month that is open or closed. Assumes nothing.
-use Rattle.std.specs.Prelude.{ℕ, ◌-◌, ◌||◌, [], ◌∷◌, map, ◌+ℤ◌, Option, Result, ◌==◌, nat_lt, slice_index_or}
-use Rattle.std.specs.List.{range_with_len}
+use Rattle.std.specs.Prelude.{ℕ, ◌-◌, ◌||◌, [], ◌∷◌, Option, Result, ◌==◌, nat_lt, slice_index_or}
 use Rattle.std.specs.Int.{int_wrap, w64}
 use Rattle.tally.specs.declared.peak.Peak.{Peak}
+use Rattle.tally.specs.Lines.{balance_of}
+use Rattle.tally.specs.Money.{lines_of}
 use Rattle.tally.specs.Peak.{peak_of, no_peak, peak_joined}
-use Rattle.tally.specs.Total.{total}
+use Rattle.tally.specs.Total.{total_over}
+use Rattle.calendar.specs.Limits.{hours_of}
 use Rattle.forms.specs.Meaning.{Meaning}
 use Rattle.settlement.specs.declared.faults.BookFault.{BookFault}
 use Rattle.settlement.specs.declared.faults.BookFault.TheVariants.{OutsideBook}
@@ -13,19 +15,18 @@ use Rattle.settlement.specs.Holdings.{Holding, no_holding}
 use Rattle.book.specs.declared.months.MonthFigures.{MonthFigures}
 use Rattle.book.specs.declared.statements.Statement.{Statement}
 use Rattle.book.specs.Memory.{Memory, memory_fault}
-use Rattle.book.specs.Months.{hours_of}
 use Rattle.book.specs.Rewriting.{entry_place}
 
 -- the peak of hours whose entries are these
 abbrev pub peak_over : (hours : ℕ) → (ℕ → Holding) → Peak
 peak_over hours entry =
-    total no_peak peak_joined (map (λ hour. peak_of (entry hour).second.withdrawn hour) (range_with_len 0 hours))
+    total_over no_peak peak_joined 0 hours (λ hour. peak_of (entry hour).second.withdrawn hour)
 
--- the statement that an account and the month's peak give: the lines, their sum, the energies and the peak
+-- the statement that an account and the month's peak give: lines, their sum, energies and peak
 abbrev pub statement_of : Holding → Peak → Statement
 statement_of account peak = record {
   lines = account.first;
-  balance = int_wrap w64 (account.first.market +ℤ account.first.contract +ℤ account.first.overcost +ℤ account.first.power);
+  balance = int_wrap w64 (balance_of (lines_of account.first));
   energy = account.second;
   peak = peak;
 }
@@ -39,7 +40,9 @@ statement_in hours i m =
 -- the faults of a statement: at last, that the agent is not in the book
 abbrev pub statement_fault : Meaning → MonthFigures → (agent : ℕ) → Memory → Option BookFault
 statement_fault form f agent m =
-    first_met (memory_fault form f m ∷ met_if (agent == 0 || nat_lt f.agents agent) OutsideBook ∷ [])
+    let outside = agent == 0 || nat_lt f.agents agent in
+    first_met (memory_fault form f m ∷ met_if outside OutsideBook ∷ [])
 
 abbrev pub stated : Meaning → MonthFigures → (agent : ℕ) → Memory → Result Statement BookFault
-stated form f agent m = answer_of (statement_in (hours_of f.days) (agent - 1) m) (statement_fault form f agent m)
+stated form f agent m =
+    answer_of (statement_in (hours_of f.days) (agent - 1) m) (statement_fault form f agent m)

@@ -1,5 +1,6 @@
 -- Withdrawing the posting of an hour. Assumes nothing.
 use Rattle.std.specs.Prelude.{ℕ, [], ◌∷◌, Option, ◌==◌, slice_index}
+use Rattle.calendar.specs.Limits.{hours_of}
 use Rattle.forms.specs.Meaning.{Meaning}
 use Rattle.settlement.specs.declared.faults.BookFault.{BookFault}
 use Rattle.settlement.specs.declared.faults.BookFault.TheVariants.{FreeHour}
@@ -8,7 +9,6 @@ use Rattle.settlement.specs.Holdings.{no_holding}
 use Rattle.settlement.specs.PostingFaults.{hour_fault}
 use Rattle.book.specs.declared.months.MonthFigures.{MonthFigures}
 use Rattle.book.specs.Memory.{Memory, memory_fault}
-use Rattle.book.specs.Months.{hours_of}
 use Rattle.book.specs.Outcomes.{Outcome, outcome}
 use Rattle.book.specs.Rewriting.{rewritten}
 
@@ -21,4 +21,5 @@ withdraw_fault form f hour m =
 -- a withdrawal leaves neutral entries
 abbrev pub withdrawn : Meaning → MonthFigures → (hour : ℕ) → Memory → Outcome (Unit {0})
 withdrawn form f hour m =
-    outcome (withdraw_fault form f hour m) tt m (rewritten (hours_of f.days) hour 0 (λ i. no_holding) m)
+    outcome (withdraw_fault form f hour m) tt m
+    (rewritten (hours_of f.days) hour 0 (λ i. no_holding) m)

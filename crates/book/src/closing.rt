@@ -1,6 +1,7 @@
 //! Closing a month.
 ghost use Rattle.std.specs.Prelude.{◌≡◌, ◌≤◌, length, IfErr};
 ghost use Rattle.std.specs.Result.{result_err};
+ghost use Rattle.calendar.specs.Limits.{most_hours};
 ghost use Rattle.book.specs.Closing.{missing_fault, close_fault, closed};
 ghost use Rattle.book.specs.Lent.{memory_in, memory_seen, SameLoan};
 ghost use Rattle.book.specs.Months.{figures_in, figures_of, closed_as};
@@ -14,7 +15,7 @@ use settlement::{BookFault, charge_power, check_power};
 
 /// Refuses a month of which an hour is missing.
 fn check_hours(marks: &[u8]) -> Result<(), BookFault>
-    requires { length marks.now ≤ 744 }
+    requires { length marks.now ≤ most_hours }
     ensures { result_err result ≡ missing_fault (length marks.now) marks.now }
 {
     match marks.iter().position(|mark| *mark == FREE) {
@@ -29,15 +30,16 @@ fn check_closing<F: ContractForm>(
     form: &F,
     view: &View<'_, '_>,
 ) -> Result<(), BookFault>
-    ensures { result_err result ≡ close_fault (F.meaning form.now) (figures_in month) (memory_seen view.now) }
+    ensures { let memory = memory_seen view.now in
+        result_err result ≡ close_fault (F.meaning form.now) (figures_in month) memory }
 {
     view.check(form, month)?;
     check_hours(view.marks)?;
     check_power(view.pool.agents, view.accounts)
 }
 
-/// Closes a month of which every hour is posted: power is credited, and its sum debited over the month's withdrawn energy. A refused closing gives
-/// the open month back.
+/// Closes a month of which every hour is posted: power is credited, and its sum debited over the
+/// month's withdrawn energy. A refused closing gives the open month back.
 pub fn close<F: ContractForm>(
     month: OpenMonth,
     form: &F,

@@ -1,26 +1,23 @@
-//! The open and the closed month: their figures alone. Only an accepted opening makes the one, and only an accepted closing the other.
-ghost use Rattle.std.specs.Prelude.{◌≡◌, ◌*◌, ◌≤◌, IfOk, OnOk, length};
-ghost use Rattle.std.specs.Result.{result_err};
-ghost use Rattle.settlement.specs.PostingFaults.{hour_fault, line_fault};
+//! The open and the closed month: their figures alone. Only an accepted opening makes the one, and
+//! only an accepted closing the other.
+ghost use Rattle.std.specs.Prelude.{◌≤◌};
+ghost use Rattle.calendar.specs.Limits.{most_days};
+ghost use Rattle.forms.specs.Limits.{most_agents};
 
-use calendar::{HourStamp, Weekday};
-use settlement::{Agent, Line, LineFault, MeasuredPosting, check_hour, check_posting};
+use calendar::{Calendar, HourStamp, MOST_DAYS};
+use forms::{Contract, ContractForm, MOST_AGENTS};
+use settlement::{Agent, LineFault, Setting, check_hour};
 
-/// The most agents of a book.
-const MOST_AGENTS: u32 = 64;
-
-/// The most days of a month.
-const MOST_DAYS: u32 = 31;
-
-/// The figures that a month is opened with, as the host fills them in: any at all. A weekday of 0 is a Monday.
+/// The figures that a month is opened with, as the host fills them in: any at all.
 #[derive(Clone, Copy, PartialEq, Eq, Debug)]
 pub struct MonthFigures {
     pub agents: u32,
     pub days: u32,
-    pub weekday: u32,
+    pub calendar: Calendar,
 }
 
 impl MonthFigures {
+    ghost use Rattle.std.specs.Prelude.{◌≡◌};
     ghost use Rattle.book.specs.Months.{size_known};
 
     /// Whether its agents and its days are within their limits.
@@ -36,41 +33,47 @@ impl MonthFigures {
 pub(crate) struct Extent {
     pub(crate) agents: u32,
     pub(crate) days: u32,
-    pub(crate) weekday: u32,
+    pub(crate) calendar: Calendar,
     ghost some_agents: { 1 ≤ agents },
-    ghost few_agents: { agents ≤ 64 },
+    ghost few_agents: { agents ≤ most_agents },
     ghost some_days: { 1 ≤ days },
-    ghost few_days: { days ≤ 31 },
-    ghost known_weekday: { weekday ≤ 6 },
+    ghost few_days: { days ≤ most_days },
+    ghost known_weekday: { calendar.weekday ≤ 6 },
 }
 
-/// A month that is open. It is moved, and cannot be copied or let go: closing takes it, and `retire` gives its figures back.
+/// A month that is open. It is moved, and cannot be copied or let go: closing takes it, and
+/// `retire` gives its figures back.
 pub struct OpenMonth {
     agents: u32,
     days: u32,
     weekday: u32,
     ghost some_agents: { 1 ≤ agents },
-    ghost few_agents: { agents ≤ 64 },
+    ghost few_agents: { agents ≤ most_agents },
     ghost some_days: { 1 ≤ days },
-    ghost few_days: { days ≤ 31 },
+    ghost few_days: { days ≤ most_days },
     ghost known_weekday: { weekday ≤ 6 },
 }
 
-/// A month that is closed. It is moved, and cannot be copied or let go: `retire` gives its figures back.
+/// A month that is closed. It is moved, and cannot be copied or let go: `retire` gives its figures
+/// back.
 pub struct ClosedMonth {
     agents: u32,
     days: u32,
     weekday: u32,
     ghost some_agents: { 1 ≤ agents },
-    ghost few_agents: { agents ≤ 64 },
+    ghost few_agents: { agents ≤ most_agents },
     ghost some_days: { 1 ≤ days },
-    ghost few_days: { days ≤ 31 },
+    ghost few_days: { days ≤ most_days },
     ghost known_weekday: { weekday ≤ 6 },
 }
 
 impl Extent {
-    ghost use Rattle.calendar.specs.Weekdays.{number_of};
-    ghost use Rattle.book.specs.Months.{figures_in, figures_of, hours_of};
+    ghost use Rattle.std.specs.Prelude.{◌≡◌, IfOk};
+    ghost use Rattle.std.specs.Result.{result_err};
+    ghost use Rattle.calendar.specs.Limits.{hours_of};
+    ghost use Rattle.settlement.specs.PostingFaults.{hour_fault};
+    ghost use Rattle.settlement.specs.Setting.{setting_of};
+    ghost use Rattle.book.specs.Months.{figures_in, figures_of, setting_with};
 
     /// The figures that the month was opened with.
     pub(crate) fn figures(&self) -> MonthFigures
@@ -79,7 +82,7 @@ impl Extent {
         MonthFigures {
             agents: self.agents,
             days: self.days,
-            weekday: self.weekday,
+            calendar: self.calendar,
         }
     }
 
@@ -90,11 +93,25 @@ impl Extent {
         24 * self.days
     }
 
-    /// The month's first weekday.
-    pub(crate) fn calendar(&self) -> Weekday
-        ensures { number_of result ≡ self.now.weekday }
+    /// What its hours are settled with.
+    pub(crate) fn setting<'a, F: ContractForm>(
+        &self,
+        form: &'a F,
+        agents: &'a [Agent],
+        contracts: &'a [Option<Contract>],
+    ) -> Setting<'a, F>
+        ensures { let f = figures_in self.now in
+            setting_of (F.meaning result.form.now) result
+            ≡ setting_with (F.meaning form.now) f agents.now contracts.now }
     {
-        Weekday::at_number(self.weekday)
+        let Extent { days, calendar, .. } = *self;
+        Setting {
+            form,
+            calendar,
+            days,
+            agents,
+            contracts,
+        }
     }
 
     /// The stamp of one of the month's hours, or a refusal where the hour lies outside.
@@ -102,24 +119,7 @@ impl Extent {
         ensures fault { result_err result ≡ hour_fault (hours_of self.now.days) hour }
         ensures stamp { IfOk result (λ s. (s.hour ≡ hour) × (s.days ≡ self.now.days)) }
     {
-        check_hour(self.days, hour)
-    }
-
-    /// The posting of one of the month's hours, or the first fault of the posting's own figures.
-    pub(crate) fn check_posting<'a>(
-        &self,
-        hour: u32,
-        price: u32,
-        lines: &'a [Line],
-        agents: &'a [Agent],
-    ) -> Result<MeasuredPosting<'a>, LineFault>
-        requires { length agents.now ≡ self.now.agents }
-        ensures fault { result_err result ≡ line_fault self.now.agents (hours_of self.now.days) agents.now hour price lines.now }
-        ensures stamp { IfOk result (λ p. (p.stamp.hour ≡ hour) × (p.stamp.days ≡ self.now.days)) }
-        ensures figures { IfOk result (λ p. (p.price ≡ price) × (p.lines.now ≡ lines.now) × (p.agents.now ≡ agents.now)) }
-        ensures long { OnOk result (length lines.now ≡ self.now.agents) }
-    {
-        check_posting(self.days, hour, price, lines, agents)
+        check_hour(self.days, self.calendar, hour)
     }
 
     /// The month that was opened with these figures: for an accepted opening alone.
@@ -129,17 +129,18 @@ impl Extent {
         let Extent {
             agents,
             days,
-            weekday,
+            calendar,
         } = self;
         OpenMonth {
             agents,
             days,
-            weekday,
+            weekday: calendar.weekday,
         }
     }
 }
 
 impl OpenMonth {
+    ghost use Rattle.std.specs.Prelude.{◌≡◌};
     ghost use Rattle.book.specs.Months.{figures_in, figures_of, closed_figures_of};
 
     /// What it is looked at as.
@@ -154,7 +155,7 @@ impl OpenMonth {
         Extent {
             agents,
             days,
-            weekday,
+            calendar: Calendar { weekday },
         }
     }
 
@@ -177,7 +178,7 @@ impl OpenMonth {
         MonthFigures {
             agents,
             days,
-            weekday,
+            calendar: Calendar { weekday },
         }
     }
 
@@ -190,12 +191,13 @@ impl OpenMonth {
         ClosedMonth {
             agents: extent.agents,
             days: extent.days,
-            weekday: extent.weekday,
+            weekday: extent.calendar.weekday,
         }
     }
 }
 
 impl ClosedMonth {
+    ghost use Rattle.std.specs.Prelude.{◌≡◌};
     ghost use Rattle.book.specs.Months.{figures_in, closed_figures_of};
 
     /// What it is looked at as.
@@ -210,7 +212,7 @@ impl ClosedMonth {
         Extent {
             agents,
             days,
-            weekday,
+            calendar: Calendar { weekday },
         }
     }
 
@@ -233,7 +235,7 @@ impl ClosedMonth {
         MonthFigures {
             agents,
             days,
-            weekday,
+            calendar: Calendar { weekday },
         }
     }
 }

@@ -8,7 +8,7 @@ ghost use Rattle.book.specs.Outcomes.{outcome_of};
 use crate::memory::{Ledger, Pool};
 use crate::months::{MonthFigures, OpenMonth};
 use forms::Contract;
-use settlement::{Agent, BookFault, Entry};
+use settlement::{Agent, BookFault, Holding};
 use tally::{Pair, Tally};
 
 /// Opens a month; all lines, energies, marks and contract places are emptied.
@@ -24,7 +24,7 @@ pub fn open(
 {
     let pool = Pool { agents, contracts };
     let month = ledger.view(&pool).extent_of(figures)?;
-    let nothing: Entry = Pair::neutral();
+    let nothing: Holding = Pair::neutral();
     ledger.accounts.fill(nothing);
     contracts.fill(None);
     ledger.marks.fill(0);

@@ -1,12 +1,14 @@
 //! Posting an hour, from lines or from a packet, and withdrawing it.
-ghost use Rattle.std.specs.Prelude.{◌≡◌, ◌*◌, true, length};
+ghost use Rattle.std.specs.Prelude.{◌≡◌, ℕ, ◌*◌, true, length};
 ghost use Rattle.std.specs.List.{list_all};
-ghost use Rattle.calendar.specs.Weekdays.{number_of};
+ghost use Rattle.calendar.specs.Limits.{hours_of};
 ghost use Rattle.settlement.specs.ContractFaults.{place_fits};
 ghost use Rattle.settlement.specs.Holdings.{entry_of};
-ghost use Rattle.settlement.specs.Pool.{pool_of, hour_of};
+ghost use Rattle.settlement.specs.Legs.{hour_of};
+ghost use Rattle.settlement.specs.Posting.{posting_of};
+ghost use Rattle.settlement.specs.Setting.{setting_of};
 ghost use Rattle.book.specs.Lent.{memory_in, SameLoan};
-ghost use Rattle.book.specs.Months.{figures_of, hours_of};
+ghost use Rattle.book.specs.Months.{figures_of};
 ghost use Rattle.book.specs.Outcomes.{outcome_of};
 ghost use Rattle.book.specs.Posting.{posted, packet_posted};
 ghost use Rattle.book.specs.Rewriting.{entries_with, accounts_with};
@@ -15,9 +17,8 @@ ghost use Rattle.book.specs.Withdrawal.{withdrawn};
 use crate::memory::{Ledger, Pool};
 use crate::months::OpenMonth;
 use crate::rewrites::replace_hour;
-use calendar::Weekday;
-use forms::{Contract, ContractForm};
-use settlement::{Account, BookFault, Entry, Line, MeasuredPosting, PacketPosting};
+use forms::{ContractForm, MOST_AGENTS};
+use settlement::{BookFault, CheckedPosting, Holding, PacketPosting, Posting, Setting};
 use tally::{Pair, Tally};
 
 /// The mark of an hour at which nothing stands.
@@ -26,64 +27,74 @@ pub(crate) const FREE: u8 = 0;
 /// The mark of an hour at which a posting stands.
 const POSTED: u8 = 1;
 
-/// Writes what a posting gives each agent at its hour, with the contracts that cover it; the fresh entries are scratch memory.
+/// Writes what a posting gives each agent at its hour, with the contracts that cover it; the fresh
+/// entries are scratch memory.
 fn write_posting<F: ContractForm>(
-    posting: &MeasuredPosting<'_>,
-    form: &F,
-    first: Weekday,
-    contracts: &[Option<Contract>],
-    fresh: &mut [Entry],
-    accounts: &mut [Account],
-    entries: &mut [Entry],
+    setting: &Setting<'_, F>,
+    checked: &CheckedPosting<'_>,
+    fresh: &mut [Holding],
+    accounts: &mut [Holding],
+    entries: &mut [Holding],
 )
-    requires fit { list_all (place_fits (F.meaning form.now) (hours_of posting.now.stamp.days) posting.now.agents.now) contracts.now ≡ true }
-    requires fresh_long { length fresh.old ≡ length posting.now.lines.now }
-    requires accounts_long { length accounts.old ≡ length posting.now.lines.now }
-    requires entries_long { length entries.old ≡ length posting.now.lines.now * hours_of posting.now.stamp.days }
-    ensures entries { entries.new ≡ entries_with (hours_of posting.now.stamp.days) posting.now.stamp.hour (λ i. entry_of (hour_of (pool_of (F.meaning form.now) (number_of first) posting.now.agents.now contracts.now) posting.now.stamp.hour posting.now.price posting.now.lines.now i)) entries.old }
-    ensures accounts { accounts.new ≡ accounts_with (hours_of posting.now.stamp.days) posting.now.stamp.hour (λ i. entry_of (hour_of (pool_of (F.meaning form.now) (number_of first) posting.now.agents.now contracts.now) posting.now.stamp.hour posting.now.price posting.now.lines.now i)) entries.old accounts.old }
+    requires agents { checked.now.agents.now ≡ setting.now.agents.now }
+    requires days { checked.now.stamp.days ≡ setting.now.days }
+    requires calendar { checked.now.stamp.calendar ≡ setting.now.calendar }
+    requires fit { let setting = setting_of (F.meaning setting.now.form.now) setting.now in
+        list_all (place_fits setting) setting.places ≡ true }
+    requires fresh_long { length fresh.old ≡ length setting.now.agents.now }
+    requires accounts_long { length accounts.old ≡ length setting.now.agents.now }
+    requires entries_long { let count = length setting.now.agents.now in
+        length entries.old ≡ count * hours_of setting.now.days }
+    ensures entries { let setting = setting_of (F.meaning setting.now.form.now) setting.now in
+        let posting = posting_of checked.now.posting in
+        let new = λ (i : ℕ). entry_of (hour_of setting posting i) in
+        entries.new ≡ entries_with (hours_of setting.days) posting.hour new entries.old }
+    ensures accounts { let setting = setting_of (F.meaning setting.now.form.now) setting.now in
+        let posting = posting_of checked.now.posting in
+        let new = λ (i : ℕ). entry_of (hour_of setting posting i) in
+        let hours = hours_of setting.days in
+        accounts.new ≡ accounts_with hours posting.hour new entries.old accounts.old }
 {
-    posting.fill_hour(form, first, contracts, fresh);
-    replace_hour(posting.stamp, fresh, accounts, entries);
+    setting.fill_hour(checked, fresh);
+    replace_hour(checked.stamp, fresh, accounts, entries);
 }
 
-/// Posts an hour: its price, and a line for each agent. The posting of an hour that is posted already corrects it. Each standing contract that covers
-/// the hour puts its legs on the parties' contract lines.
+/// Posts an hour: its price, and a line for each agent. The posting of an hour that is posted
+/// already corrects it. Each standing contract that covers the hour puts its legs on the parties'
+/// contract lines.
 pub fn post<F: ContractForm>(
     month: &OpenMonth,
     form: &F,
-    hour: u32,
-    price: u32,
-    lines: &[Line],
+    posting: &Posting<'_>,
     pool: &Pool<'_>,
     ledger: &mut Ledger<'_>,
 ) -> Result<(), BookFault>
     ensures lent { SameLoan ledger.old ledger.new }
     ensures value { let before = memory_in pool.now ledger.old in
         outcome_of result (memory_in pool.now ledger.new)
-        ≡ posted (F.meaning form.now) (figures_of month.now) hour price lines.now before }
+        ≡ posted (F.meaning form.now) (figures_of month.now) (posting_of posting.now) before }
 {
     let month = month.extent();
     ledger.view(pool).check(form, month)?;
-    let posting = month.check_posting(hour, price, lines, pool.agents)?;
-    posting.check_carriers()?;
-    let nothing: Entry = Pair::neutral();
-    let mut fresh = [nothing; 64];
+    let setting = month.setting(form, pool.agents, pool.contracts);
+    let checked = setting.check_posting(posting)?;
+    checked.check_carriers()?;
+    let nothing: Holding = Pair::neutral();
+    let mut fresh = [nothing; MOST_AGENTS as usize];
     write_posting(
-        &posting,
-        form,
-        month.calendar(),
-        pool.contracts,
-        &mut fresh[..lines.len()],
+        &setting,
+        &checked,
+        &mut fresh[..pool.agents.len()],
         ledger.accounts,
         ledger.entries,
     );
-    ledger.marks[hour as usize] = POSTED;
+    ledger.marks[posting.hour as usize] = POSTED;
     Ok(())
 }
 
-/// Posts an hour that comes as a packet, as the lines that it says would be posted. Memory of the wrong size is told first, then bytes that are no
-/// packet, then the fault with the smallest number.
+/// Posts an hour that comes as a packet, as the lines that it says would be posted. Memory of the
+/// wrong size is told first, then bytes that are no packet, then the fault with the smallest
+/// number.
 pub fn post_packet<F: ContractForm>(
     month: &OpenMonth,
     form: &F,
@@ -97,16 +108,8 @@ pub fn post_packet<F: ContractForm>(
         ≡ packet_posted (F.meaning form.now) (figures_of month.now) bytes.now before }
 {
     ledger.view(pool).check_size(month.extent())?;
-    let posting = PacketPosting::read(bytes)?;
-    post(
-        month,
-        form,
-        posting.hour,
-        posting.price,
-        posting.lines(),
-        pool,
-        ledger,
-    )
+    let packet = PacketPosting::read(bytes)?;
+    post(month, form, &packet.posting(), pool, ledger)
 }
 
 /// Withdraws an hour's posting: the hour is free, and its entries are neutral.
@@ -128,8 +131,8 @@ pub fn withdraw<F: ContractForm>(
     if ledger.marks[hour as usize] == FREE {
         return Err(BookFault::FreeHour(hour));
     }
-    let nothing: Entry = Pair::neutral();
-    let fresh = [nothing; 64];
+    let nothing: Holding = Pair::neutral();
+    let fresh = [nothing; MOST_AGENTS as usize];
     replace_hour(
         stamp,
         &fresh[..pool.agents.len()],

@@ -1,12 +1,8 @@
 //! The statement of an agent.
-ghost use Rattle.std.specs.Prelude.{◌≡◌};
-ghost use Rattle.tally.specs.Peak.{no_peak};
-ghost use Rattle.settlement.specs.Holdings.{no_holding};
-ghost use Rattle.book.specs.Statements.{statement_of};
-
+use settlement::Holding;
 use tally::{Energy, Money, Peak, Tally};
 
-/// An agent's month: four lines, their sum, the energies, and the hour of its highest withdrawal.
+/// An agent's month: its lines, their sum, the energies, and the hour of its highest withdrawal.
 #[derive(Clone, Copy, PartialEq, Eq, Debug)]
 pub struct Statement {
     pub lines: Money,
@@ -16,6 +12,24 @@ pub struct Statement {
 }
 
 impl Statement {
+    ghost use Rattle.std.specs.Prelude.{◌≡◌};
+    ghost use Rattle.tally.specs.Peak.{no_peak};
+    ghost use Rattle.settlement.specs.Holdings.{no_holding};
+    ghost use Rattle.book.specs.Statements.{statement_of};
+
+    /// The statement of an account, with the peak of its month.
+    pub(crate) fn of(account: Holding, peak: Peak) -> Statement
+        ensures { result ≡ statement_of account peak }
+    {
+        let lines = account.first;
+        Statement {
+            lines,
+            balance: lines.balance(),
+            energy: account.second,
+            peak,
+        }
+    }
+
     /// The statement of an agent of whom nothing stands.
     pub fn blank() -> Statement
         ensures { result ≡ statement_of no_holding no_peak }

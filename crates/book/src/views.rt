@@ -1,31 +1,29 @@
 //! What a month shows: the statement of an agent, provisional or final, and a day of it.
-ghost use Rattle.std.specs.Prelude.{◌≡◌, ℕ, ◌+◌, ◌≤◌, map, length, ◌+ℤ◌, slice_index_or};
+ghost use Rattle.std.specs.Prelude.{◌≡◌, ℕ, ◌+◌, ◌≤◌, map, length, slice_index_or};
 ghost use Rattle.std.specs.List.{range_with_len};
-ghost use Rattle.std.specs.Int.{int_wrap, w64};
 ghost use Rattle.tally.specs.Peak.{peak_of};
+ghost use Rattle.calendar.specs.Limits.{most_hours};
 ghost use Rattle.settlement.specs.Holdings.{no_holding};
 ghost use Rattle.book.specs.Days.{day_stated};
 ghost use Rattle.book.specs.Lent.{memory_seen};
 ghost use Rattle.book.specs.Months.{figures_in, figures_of, closed_figures_of};
-ghost use Rattle.book.specs.Statements.{stated, statement_of, peak_over};
+ghost use Rattle.book.specs.Statements.{stated, peak_over};
 
 use crate::memory::View;
 use crate::months::{ClosedMonth, Extent, OpenMonth};
 use crate::statements::Statement;
+use calendar::MOST_HOURS;
 use forms::ContractForm;
-use settlement::{Account, BookFault, Entry};
-use tally::{Money, Peak, Tally, fold};
+use settlement::{BookFault, Holding};
+use tally::{Peak, Tally, fold};
 
 /// The hours of a day.
 const HOURS: usize = 24;
 
-/// The most hours of a month.
-const MOST_HOURS: usize = 31 * HOURS;
-
 /// Writes the peak of each hour of an agent's month to its place.
-fn fill_peaks(month: &[Entry], peaks: &mut [Peak])
+fn fill_peaks(month: &[Holding], peaks: &mut [Peak])
     requires same { length peaks.old ≡ length month.now }
-    requires few { length month.now ≤ 744 }
+    requires few { length month.now ≤ most_hours }
     ensures { let kwh = λ (hour : ℕ). (slice_index_or month.now hour no_holding).second.withdrawn in
         peaks.new ≡ map (λ hour. peak_of (kwh hour) hour) (range_with_len 0 (length month.now)) }
 {
@@ -35,40 +33,16 @@ fn fill_peaks(month: &[Entry], peaks: &mut [Peak])
 }
 
 /// The peak of the `hours` entries from `first` on.
-fn month_peak(entries: &[Entry], first: usize, hours: usize) -> Peak
+fn month_peak(entries: &[Holding], first: usize, hours: usize) -> Peak
     requires within { first + hours ≤ length entries.now }
-    requires few { hours ≤ 744 }
-    ensures { result ≡ peak_over hours (λ hour. slice_index_or entries.now (first + hour) no_holding) }
+    requires few { hours ≤ most_hours }
+    ensures { let entry = λ (hour : ℕ). slice_index_or entries.now (first + hour) no_holding in
+        result ≡ peak_over hours entry }
 {
-    let mut peaks = [Peak::neutral(); MOST_HOURS];
+    let mut peaks = [Peak::neutral(); MOST_HOURS as usize];
     let peaks = &mut peaks[..hours];
     fill_peaks(&entries[first..first + hours], peaks);
     fold(peaks)
-}
-
-/// The sum of the four lines.
-fn balance(lines: Money) -> i64
-    ensures { result ≡ int_wrap w64 (lines.market +ℤ lines.contract +ℤ lines.overcost +ℤ lines.power) }
-{
-    lines
-        .market
-        .wrapping_add(lines.contract)
-        .wrapping_add(lines.overcost)
-        .wrapping_add(lines.power)
-}
-
-/// The statement of an account, with the peak of its month.
-fn statement(account: Account, peak: Peak) -> Statement
-    ensures { result ≡ statement_of account peak }
-{
-    let lines = account.first;
-    let balance = balance(lines);
-    Statement {
-        lines,
-        balance,
-        energy: account.second,
-        peak,
-    }
 }
 
 /// The statement of an agent, counted from 1, in a month that is open or closed.
@@ -78,7 +52,8 @@ fn statement_in<F: ContractForm>(
     agent: u32,
     view: &View<'_, '_>,
 ) -> Result<Statement, BookFault>
-    ensures { result ≡ stated (F.meaning form.now) (figures_in month) agent (memory_seen view.now) }
+    ensures { let memory = memory_seen view.now in
+        result ≡ stated (F.meaning form.now) (figures_in month) agent memory }
 {
     view.check(form, month)?;
     if agent == 0 || agent > month.agents {
@@ -87,7 +62,7 @@ fn statement_in<F: ContractForm>(
     let index = (agent - 1) as usize;
     let hours = month.hours() as usize;
     let peak = month_peak(view.entries, index * hours, hours);
-    Ok(statement(view.accounts[index], peak))
+    Ok(Statement::of(view.accounts[index], peak))
 }
 
 /// The provisional statement of an agent of an open month, counted from 1.
@@ -97,7 +72,8 @@ pub fn provisional<F: ContractForm>(
     agent: u32,
     view: &View<'_, '_>,
 ) -> Result<Statement, BookFault>
-    ensures { result ≡ stated (F.meaning form.now) (figures_of month.now) agent (memory_seen view.now) }
+    ensures { let memory = memory_seen view.now in
+        result ≡ stated (F.meaning form.now) (figures_of month.now) agent memory }
 {
     statement_in(month.extent(), form, agent, view)
 }
@@ -109,20 +85,23 @@ pub fn final_statement<F: ContractForm>(
     agent: u32,
     view: &View<'_, '_>,
 ) -> Result<Statement, BookFault>
-    ensures { result ≡ stated (F.meaning form.now) (closed_figures_of closed.now) agent (memory_seen view.now) }
+    ensures { let memory = memory_seen view.now in
+        result ≡ stated (F.meaning form.now) (closed_figures_of closed.now) agent memory }
 {
     statement_in(closed.extent(), form, agent, view)
 }
 
-/// The total of an agent's day, both counted from 1: the twenty-four entries from its first hour on, folded.
+/// The total of an agent's day, both counted from 1: the twenty-four entries from its first hour
+/// on, folded.
 pub fn day_total<F: ContractForm>(
     month: &OpenMonth,
     form: &F,
     agent: u32,
     day: u32,
     view: &View<'_, '_>,
-) -> Result<Entry, BookFault>
-    ensures { result ≡ day_stated (F.meaning form.now) (figures_of month.now) agent day (memory_seen view.now) }
+) -> Result<Holding, BookFault>
+    ensures { let memory = memory_seen view.now in
+        result ≡ day_stated (F.meaning form.now) (figures_of month.now) agent day memory }
 {
     let month = month.extent();
     view.check(form, month)?;

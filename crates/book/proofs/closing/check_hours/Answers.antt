@@ -5,8 +5,8 @@ use Rattle.std.proofs.Math.Bool.{not-not}
 use Rattle.std.proofs.lemmas.Iterator.{YieldsList-from_slice}
 use Rattle.std.proofs.lemmas.Iterator.Search.{position_from_yields_List}
 use Rattle.settlement.specs.declared.faults.BookFault.TheVariants.{MissingHour}
-use Rattle.settlement.specs.Sums.{first_failing}
-use Rattle.settlement.proofs.Checks.{first_is}
+use Rattle.tally.specs.Failing.{first_failing}
+use Rattle.tally.proofs.Failing.{first_is}
 use Rattle.book.specs.Memory.{is_posted}
 use Rattle.book.proofs.closing.check_hours.Goals as goal
 

@@ -2,7 +2,7 @@ use Rattle.std.proofs.Common.{ℕ, Bool, not, sym, ap, ◌∙◌}
 use Rattle.std.specs.Option.{option_map}
 use Rattle.std.proofs.lemmas.Bool.{eq-eqb, ne_eqb}
 use Rattle.settlement.specs.declared.faults.BookFault.TheVariants.{CoveredHour}
-use Rattle.book.proofs.Covered.{first_more, first_here, first_none}
+use Rattle.tally.proofs.Failing.{first_more, first_here, first_none}
 use Rattle.book.specs.Memory.{is_posted}
 use Rattle.book.proofs.entering.check_covered.Goals as goal
 

@@ -1,5 +1,5 @@
 use Rattle.std.proofs.Common.{◌≡◌, ◌-◌, not}
-use Rattle.settlement.specs.Sums.{first_failing}
+use Rattle.tally.specs.Failing.{first_failing}
 use Rattle.book.specs.Memory.{is_posted}
 use Rattle.book.proofs.entering.check_covered.Given as goal
 

@@ -5,7 +5,8 @@ use Rattle.std.proofs.lemmas.List.Elements.{All-weaker}
 use Rattle.std.proofs.lemmas.List.Sums.{sum_by-le, AllPass-from_list_all}
 use Rattle.std.proofs.lemmas.Bool.{and_parts, leb-true}
 use Rattle.settlement.specs.Holdings.{Holding}
-use Rattle.book.specs.Memory.{energy_within, most_month_energy}
+use Rattle.settlement.specs.Limits.{most_month_energy}
+use Rattle.book.specs.Memory.{energy_within}
 use Rattle.book.proofs.memory.all_withdrawn.Goals as goal
 
 -- a holding whose energies are within a limit has withdrawn no more

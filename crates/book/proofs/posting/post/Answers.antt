@@ -1,15 +1,20 @@
-use Rattle.std.proofs.Common.{◌≡◌, ℕ, set, sym, refl, ap, ◌∙◌, None}
+use Rattle.std.proofs.Common.{◌≡◌, ℕ, set, refl, ap, ◌∙◌}
+use Rattle.std.specs.List.{list_all}
 use Rattle.std.proofs.lemmas.Result.{err_from_is_err_and}
+use Rattle.calendar.specs.Limits.{hours_of}
+use Rattle.settlement.specs.ContractFaults.{place_fits}
 use Rattle.settlement.specs.Faults.{met_if, of_posting}
 use Rattle.settlement.specs.Holdings.{Holding, entry_of}
-use Rattle.settlement.specs.Pool.{pool_of, hour_of}
+use Rattle.settlement.specs.Legs.{hour_of}
+use Rattle.settlement.specs.Posting.{posting_of}
 use Rattle.settlement.specs.PostingFaults.{line_fault, uncarried}
+use Rattle.settlement.specs.Setting.{Setting}
 use Rattle.settlement.specs.declared.faults.BookFault.TheVariants.{NoCarrier}
 use Rattle.book.specs.Lent.{memory_in}
 use Rattle.book.specs.Memory.{memory_of, memory_fault}
-use Rattle.book.specs.Months.{hours_of}
+use Rattle.book.specs.Months.{figures_of, setting_with}
 use Rattle.book.specs.Rewriting.{entries_with, accounts_with}
-use Rattle.book.proofs.Tables.{next_row, this_row, refused, accepted}
+use Rattle.book.proofs.Tables.{memory_fits, next_row, this_row, refused, accepted}
 use Rattle.book.proofs.posting.post.Goals as goal
 
 pub returns-in_err-check-clause-value : goal.returns-in_err-check-clause-value
@@ -18,47 +23,54 @@ returns-in_err-check-clause-value g c =
     let p = err_from_is_err_and c.from_residual.result c.from_residual.ensures.1 in
     rw (p.1, p.2) (refused _ _ _ _ _ (this_row _ _ _ (c.in_err-check.ensures ∙ (λ t. memory_fault form (c.extent-month.ensures t) (c.view.ensures t)))))
 
-pub returns-in_err-posting-clause-value : goal.returns-in_err-posting-clause-value
-returns-in_err-posting-clause-value g c =
+pub returns-in_err-checked-clause-value : goal.returns-in_err-checked-clause-value
+returns-in_err-checked-clause-value g c =
     let form = g.F.ContractForm.meaning c.args.form.now in
     let m = memory_in c.args.pool.now c.args.ledger.now in
     let same = c.extent-month.ensures in
-    let p = err_from_is_err_and c.from_residual-in_err-posting.result c.from_residual-in_err-posting.ensures.1 in
+    let setting = c.setting-setting.ensures ∙ (λ t. setting_with form (same t) m.agents m.contracts) in
+    let p = err_from_is_err_and c.from_residual-in_err-checked.result c.from_residual-in_err-checked.ensures.1 in
     rw (p.1, p.2)
     (refused _ _ _ _ _
     (next_row _ _ _ (c.in_ok-check.ensures ∙ (λ t. memory_fault form (same t) (c.view.ensures t)))
-    (this_row _ _ _
-    (ap of_posting (c.in_err-posting.ensures.fault ∙ (λ t. line_fault (same t).agents (hours_of (same t).days) m.agents c.args.hour c.args.price c.args.lines.now))))))
+    (this_row _ _ _ (ap of_posting (c.in_err-checked.ensures.fault ∙ (λ t. line_fault (setting t) (posting_of c.args.posting.now)))))))
 
 pub returns-in_err-check_carriers-clause-value : goal.returns-in_err-check_carriers-clause-value
 returns-in_err-check_carriers-clause-value g c =
     let form = g.F.ContractForm.meaning c.args.form.now in
     let m = memory_in c.args.pool.now c.args.ledger.now in
     let same = c.extent-month.ensures in
+    let setting = c.setting-setting.ensures ∙ (λ t. setting_with form (same t) m.agents m.contracts) in
+    let agents = c.in_ok-checked.ensures.agents ∙ ap (λ (s : Setting). s.agents) setting in
     let p = err_from_is_err_and c.from_residual-in_err-check_carriers.result c.from_residual-in_err-check_carriers.ensures.1 in
-    let figures = c.in_ok-posting.ensures.figures in
     rw (p.1, p.2)
     (refused _ _ _ _ _
     (next_row _ _ _ (c.in_ok-check.ensures ∙ (λ t. memory_fault form (same t) (c.view.ensures t)))
-    (next_row _ _ _
-    (ap of_posting (c.in_ok-posting.ensures.fault ∙ (λ t. line_fault (same t).agents (hours_of (same t).days) m.agents c.args.hour c.args.price c.args.lines.now)))
-    (this_row _ _ _ (c.in_err-check_carriers.ensures ∙ (λ t. met_if (uncarried (figures.2 t) (figures.0 t) (figures.1 t)) NoCarrier))))))
+    (next_row _ _ _ (ap of_posting (c.in_ok-checked.ensures.fault ∙ (λ t. line_fault (setting t) (posting_of c.args.posting.now))))
+    (this_row _ _ _ (c.in_err-check_carriers.ensures ∙ (λ t. met_if (uncarried (agents t) (c.in_ok-checked.ensures.posting t)) NoCarrier))))))
+
+pub write_posting-requires-clause-fit : goal.write_posting-requires-clause-fit
+write_posting-requires-clause-fit g c =
+    let form = g.F.ContractForm.meaning c.args.form.now in
+    let m = memory_in c.args.pool.now c.args.ledger.now in
+    let same = c.extent-month.ensures in
+    let known = memory_fits form (figures_of c.args.month.now) m (c.in_ok-check.ensures ∙ (λ t. memory_fault form (same t) (c.view.ensures t))) in
+    ap (λ (setting : Setting). list_all (place_fits setting) setting.places) (c.setting-setting.ensures ∙ (λ t. setting_with form (same t) m.agents m.contracts))
+    ∙ known.contracts_fit
 
 pub returns-clause-value : goal.returns-clause-value
 returns-clause-value g c =
     let form = g.F.ContractForm.meaning c.args.form.now in
     let m = memory_in c.args.pool.now c.args.ledger.now in
     let same = c.extent-month.ensures in
-    let stamp = c.in_ok-posting.ensures.stamp in
-    let figures = c.in_ok-posting.ensures.figures in
-    let days = stamp.1 ∙ ap (λ f. f.days) same in
-    let weekday = c.calendar.ensures ∙ ap (λ f. f.weekday) same in
-    let new : 𝕀 → ℕ → Holding = λ t i. entry_of (hour_of (pool_of form (weekday t) (figures.2 t) m.contracts) (stamp.0 t) (figures.0 t) (figures.1 t) i) in
-    let entries_are = c.write_posting.ensures.entries ∙ (λ t. entries_with (hours_of (days t)) (stamp.0 t) (new t) m.entries) in
-    let accounts_are = c.write_posting.ensures.accounts ∙ (λ t. accounts_with (hours_of (days t)) (stamp.0 t) (new t) m.entries m.accounts) in
+    let setting = c.setting-setting.ensures ∙ (λ t. setting_with form (same t) m.agents m.contracts) in
+    let posting = c.in_ok-checked.ensures.posting in
+    let agents = c.in_ok-checked.ensures.agents ∙ ap (λ (s : Setting). s.agents) setting in
+    let new : 𝕀 → ℕ → Holding = λ t i. entry_of (hour_of (setting t) (posting t) i) in
+    let entries_are = c.write_posting.ensures.entries ∙ (λ t. entries_with (hours_of (setting t).days) (posting t).hour (new t) m.entries) in
+    let accounts_are = c.write_posting.ensures.accounts ∙ (λ t. accounts_with (hours_of (setting t).days) (posting t).hour (new t) m.entries m.accounts) in
     accepted _ _ _ _ _
     (next_row _ _ _ (c.in_ok-check.ensures ∙ (λ t. memory_fault form (same t) (c.view.ensures t)))
-    (next_row _ _ _
-    (ap of_posting (c.in_ok-posting.ensures.fault ∙ (λ t. line_fault (same t).agents (hours_of (same t).days) m.agents c.args.hour c.args.price c.args.lines.now)))
-    (next_row _ _ _ (c.in_ok-check_carriers.ensures ∙ (λ t. met_if (uncarried (figures.2 t) (figures.0 t) (figures.1 t)) NoCarrier)) refl)))
-    (λ t. memory_of m.agents (accounts_are t) m.contracts (set m.marks c.args.hour 1) (entries_are t))
+    (next_row _ _ _ (ap of_posting (c.in_ok-checked.ensures.fault ∙ (λ t. line_fault (setting t) (posting_of c.args.posting.now))))
+    (next_row _ _ _ (c.in_ok-check_carriers.ensures ∙ (λ t. met_if (uncarried (agents t) (posting t)) NoCarrier)) refl)))
+    (λ t. memory_of m.agents (accounts_are t) m.contracts (set m.marks c.args.posting.now.hour 1) (entries_are t))

@@ -8,10 +8,11 @@ use Rattle.settlement.specs.Holdings.{Holding, no_holding}
 use Rattle.settlement.specs.PostingFaults.{hour_fault}
 use Rattle.book.specs.Lent.{memory_in}
 use Rattle.book.specs.Memory.{memory_of, memory_fault}
-use Rattle.book.specs.Months.{figures_in, hours_of}
+use Rattle.calendar.specs.Limits.{hours_of}
+use Rattle.book.specs.Months.{figures_in}
 use Rattle.book.specs.Rewriting.{entries_with, accounts_with}
 use Rattle.book.proofs.Columns.{entries_with_same, accounts_with_same}
-use Rattle.book.proofs.Tables.{checked, next_row, this_row, refused, accepted}
+use Rattle.book.proofs.Tables.{memory_fits, next_row, this_row, refused, accepted}
 use Rattle.book.proofs.posting.withdraw.Goals as goal
 
 -- the first items of many equal ones
@@ -30,7 +31,7 @@ returns-clause-value g c =
     let m = memory_in c.args.pool.now c.args.ledger.now in
     let month = c.extent-month.result in
     let same = c.extent-month.ensures in
-    let known = checked form (figures_in month) m (c.in_ok-check.ensures ∙ ap (memory_fault form (figures_in month)) c.view.ensures) in
+    let known = memory_fits form (figures_in month) m (c.in_ok-check.ensures ∙ ap (memory_fault form (figures_in month)) c.view.ensures) in
     let stamp = c.in_ok-stamp.stamp in
     let is = c.in_ok-stamp.ensures.stamp in
     let days = is.1 ∙ ap (λ f. f.days) same in

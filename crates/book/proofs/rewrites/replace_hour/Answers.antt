@@ -2,7 +2,7 @@ use Rattle.std.proofs.Common.{◌≡◌, ℕ, ◌+◌, ◌<◌, length, get_or, 
 use Rattle.std.proofs.lemmas.List.{get_or_read}
 use Rattle.book.specs.Rewriting.{entry_place, account_with}
 use Rattle.settlement.specs.Holdings.{Holding, no_holding}
-use Rattle.book.specs.Months.{hours_of}
+use Rattle.calendar.specs.Limits.{hours_of}
 use Rattle.book.proofs.Columns.{place_within, Rewritten, Settled, account_after, rewritten_more, rewritten_old, rewritten_all, settled_more, settled_old, settled_all}
 use Rattle.book.proofs.rewrites.replace_hour.Goals as goal
 

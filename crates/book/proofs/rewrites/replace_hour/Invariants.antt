@@ -1,4 +1,4 @@
-use Rattle.book.specs.Months.{hours_of}
+use Rattle.calendar.specs.Limits.{hours_of}
 use Rattle.book.proofs.Columns.{Rewritten, Settled}
 use Rattle.book.proofs.rewrites.replace_hour.Given as goal
 

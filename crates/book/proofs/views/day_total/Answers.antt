@@ -8,9 +8,10 @@ use Rattle.settlement.specs.Holdings.{no_holding, holding_joined}
 use Rattle.book.specs.Days.{day_sum, day_stated}
 use Rattle.book.specs.Lent.{memory_seen}
 use Rattle.book.specs.Memory.{memory_fault}
-use Rattle.book.specs.Months.{figures_in, hours_of}
+use Rattle.calendar.specs.Limits.{hours_of}
+use Rattle.book.specs.Months.{figures_in}
 use Rattle.book.proofs.Columns.{day_within}
-use Rattle.book.proofs.Tables.{checked, next_row, this_row}
+use Rattle.book.proofs.Tables.{memory_fits, next_row, this_row}
 use Rattle.book.proofs.views.day_total.Goals as goal
 
 pub slice_bounds-fold-end : goal.slice_bounds-fold-end
@@ -19,7 +20,7 @@ slice_bounds-fold-end g c =
     let hours = c.hours-hours.result in
     let i = c.args.agent - 1 in
     let day = c.args.day - 1 in
-    let known = checked (g.F.ContractForm.meaning c.args.form.now) (figures_in month) (memory_seen c.args.view.now) c.in_ok-check.ensures in
+    let known = memory_fits (g.F.ContractForm.meaning c.args.form.now) (figures_in month) (memory_seen c.args.view.now) c.in_ok-check.ensures in
     let agent_below : i < month.agents = omega arith in
     let day_below : day < month.days = omega arith in
     let within : i * hours + 24 * day + 24 ≤ length c.args.view.now.entries.now =

@@ -4,7 +4,7 @@ use Rattle.tally.specs.Total.{total}
 use Rattle.tally.specs.Peak.{peak_of, no_peak, peak_joined}
 use Rattle.book.specs.Statements.{peak_over}
 use Rattle.settlement.specs.Holdings.{Holding, no_holding}
-use Rattle.settlement.proofs.Sums.{map_counting_same}
+use Rattle.tally.proofs.Numbers.{map_counting_same}
 use Rattle.book.proofs.views.month_peak.Goals as goal
 
 -- the peak of a part of the entries, by where the part lies
