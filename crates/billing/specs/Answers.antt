@@ -1,5 +1,5 @@
 -- What C is told. Assumes nothing.
-use Rattle.std.specs.Prelude.{Ok, Err, Result}
+use Rattle.std.specs.Prelude.{Option, Some, None}
 use Rattle.meter.specs.declared.faults.MeterFault.{MeterFault}
 use Rattle.meter.specs.Faults.{fault_number, fault_place}
 use Rattle.packets.specs.declared.faults.ByteFault.{ByteFault}
@@ -15,6 +15,6 @@ abbrev pub of_packet : ByteFault → Answer
 of_packet fault = record { number = number_of fault; place = place_of fault }
 
 -- a fault as it is told, or 0 and 0 where there is none
-abbrev pub told : {X F : Type 0} → (F → Answer) → Result X F → Answer
-told answer_of (Ok done) = record { number = 0; place = 0 }
-told answer_of (Err fault) = answer_of fault
+abbrev pub told : {F : Type 0} → (by_number : F → Answer) → Option F → Answer
+told by_number None = record { number = 0; place = 0 }
+told by_number (Some fault) = by_number fault

@@ -1,9 +1,10 @@
 -- What C is told of the packet of a statement. Assumes nothing.
 use Rattle.std.specs.Prelude.{ℕ, List}
+use Rattle.std.specs.Result.{result_err}
 use Rattle.packets.specs.StatementPackets.{statement_read}
 use Rattle.billing.specs.declared.answers.Answer.{Answer}
 use Rattle.billing.specs.Answers.{of_packet, told}
 
 -- bytes that are to be the packet of a statement, by the number and the place of what is wrong in them
-abbrev pub statement_checked : List ℕ → Answer
-statement_checked bytes = told of_packet (statement_read bytes)
+abbrev pub statement_checked : (bytes : List ℕ) → Answer
+statement_checked bytes = told of_packet (result_err (statement_read bytes))

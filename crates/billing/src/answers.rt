@@ -1,12 +1,10 @@
 //! What C is answered.
 ghost use Rattle.std.specs.Prelude.{◌≡◌};
-ghost use Rattle.billing.specs.Answers.{of_meter, of_packet};
 
 use meter::MeterFault;
 use packets::ByteFault;
 
 /// What a call answers: the number and the place of its fault, or 0 and 0 where there is none.
-// Kept as numbers, since C looks faults up by number and place.
 #[repr(C)]
 #[derive(Clone, Copy, PartialEq, Eq, Debug)]
 pub struct Answer {
@@ -24,6 +22,8 @@ impl Answer {
 
 /// A fault of a meter's day, by its number and its place.
 impl From<MeterFault> for Answer {
+    ghost use Rattle.billing.specs.Answers.{of_meter};
+
     ghost from_gives = { λ fault r. r ≡ of_meter fault };
 
     fn from(fault: MeterFault) -> Answer {
@@ -36,6 +36,8 @@ impl From<MeterFault> for Answer {
 
 /// A fault of a packet, by its number and its place.
 impl From<ByteFault> for Answer {
+    ghost use Rattle.billing.specs.Answers.{of_packet};
+
     ghost from_gives = { λ fault r. r ≡ of_packet fault };
 
     fn from(fault: ByteFault) -> Answer {

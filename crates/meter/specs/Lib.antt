@@ -1,3 +1,4 @@
+pub mod Limits
 pub mod Quarters
 pub mod Faults
 pub mod Hours
