@@ -100,7 +100,7 @@ module _ (setting : Setting) (keeps : Keeps setting.form) (few : setting.days �
   asked c = settles setting p c few long sane
 
   -- the legs of a contract are within their limits, and cancel
-  pub legs_balanced : (c : Contract) → contract_fits setting c ≡ true → Balanced (legs_of setting p c)
+  legs_balanced : (c : Contract) → contract_fits setting c ≡ true → Balanced (legs_of setting p c)
   legs_balanced c fits =
       let parties = parties_of setting.agents c in
       let facts = facts_of setting p c in

@@ -29,7 +29,7 @@ points_more a b h =
     (energy_lawful.associative h.second no_energy no_energy ∙ ap (energy_joined h.second) (energy_lawful.identity no_energy))
 
 -- figures with another contract line
-abbrev pub with_contract : ℤ → Figures → Figures
+abbrev with_contract : ℤ → Figures → Figures
 with_contract points f = record f { lines = record f.lines { contract = points } }
 
 -- the entry of figures without contracts, with points, is that of the figures with them

@@ -63,14 +63,14 @@ fitting setting c fits =
     }
 
 -- its parties, one by one
-pub seller_known : (count : ℕ) (c : Contract) → PartiesKnown count c → (1 ≤ c.seller) × (c.seller ≤ count)
+seller_known : (count : ℕ) (c : Contract) → PartiesKnown count c → (1 ≤ c.seller) × (c.seller ≤ count)
 seller_known count c known = known 0 0 (omega arith)
 
-pub buyer_known : (count : ℕ) (c : Contract) → PartiesKnown count c → (1 ≤ c.buyer) × (c.buyer ≤ count)
+buyer_known : (count : ℕ) (c : Contract) → PartiesKnown count c → (1 ≤ c.buyer) × (c.buyer ≤ count)
 buyer_known count c known = known 1 0 (omega arith)
 
 -- it is valid, in a month of any book
-pub valid_terms_lem : (setting : Setting) (c : Contract) → setting.days ≤ most_days → Fitting setting c → Valid c (parties_of setting.agents c)
+valid_terms_lem : (setting : Setting) (c : Contract) → setting.days ≤ most_days → Fitting setting c → Valid c (parties_of setting.agents c)
 valid_terms_lem setting c few fitting =
     valid_of c (parties_of setting.agents c) fitting.between (hours_fit_longest (hours_in setting) c (omega arith) fitting.hours) fitting.figures
 
@@ -88,12 +88,12 @@ module _ (agents : List Agent) (lines : List Line) where
   distributors_le = sum_to_mono (length lines) distributed (λ j. (line_at lines j).withdrawn) distributed_each
 
   -- a distributor's own energy is among that of all distributors
-  pub distributors_among : (k : ℕ) → k < length lines → has_role distributes (agent_at agents k).role ≡ true → (line_at lines k).withdrawn ≤ distributors_withdrawn agents lines
+  distributors_among : (k : ℕ) → k < length lines → has_role distributes (agent_at agents k).role ≡ true → (line_at lines k).withdrawn ≤ distributors_withdrawn agents lines
   distributors_among k within is =
       omega (arith, cond-true (has_role distributes (agent_at agents k).role) (line_at lines k).withdrawn 0 is, sum_to_item_le (length lines) distributed k within)
 
   -- and that of anybody else comes on top of it
-  pub distributors_apart : (k : ℕ) → k < length lines → has_role distributes (agent_at agents k).role ≡ false →
+  distributors_apart : (k : ℕ) → k < length lines → has_role distributes (agent_at agents k).role ≡ false →
       (line_at lines k).withdrawn + distributors_withdrawn agents lines ≤ withdrawn_together lines
   distributors_apart k within other =
       sum_to_spare (length lines) distributed (λ j. (line_at lines j).withdrawn) k within distributed_each

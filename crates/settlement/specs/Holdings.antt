@@ -48,13 +48,9 @@ entries_of figures count = map (λ i. entry_of (figures i)) (range_with_len 0 co
 abbrev pub points_alone : MoneyLine → ℤ → Holding
 points_alone line points = pair_of (money_of (alone line points)) no_energy
 
--- points on the contract line alone
-abbrev pub contract_points : ℤ → Holding
-contract_points points = points_alone Contract points
-
 -- a holding with so many points more on its contract line
 abbrev pub with_points : ℤ → Holding → Holding
-with_points points holding = holding_joined holding (contract_points points)
+with_points points holding = holding_joined holding (points_alone Contract points)
 
 -- each agent gets so many points, by its place, on its contract line
 abbrev pub EachGets : (points : ℕ → ℤ) → (before after : List Holding) → Type 0

@@ -1,12 +1,10 @@
 use Rattle.std.proofs.Common.{◌≡◌, ℕ, ◌+◌, ◌≤◌, cond, eqb, List, get_or, take, ℤ, pos, nat_abs, sym, ap, ◌∙◌, subst, arith, w64, to_z, of_z}
 use Rattle.std.proofs.lemmas.Int.{to_z-of_z}
-use Rattle.std.proofs.lemmas.List.{take_all}
 use Rattle.std.proofs.lemmas.Slice.Zip.{get_or-zip}
 use Rattle.tally.specs.Sums.{int_sum_by}
 use Rattle.forms.specs.Limits.{most_leg}
 use Rattle.forms.specs.Parties.{party_numbers, points_of, legs_by_party}
 use Rattle.settlement.specs.Holdings.{Holding, no_holding, with_points}
-use Rattle.settlement.specs.Legs.{is_number, given_to}
 use Rattle.settlement.proofs.Points.{points_none, points_more}
 use Rattle.tally.proofs.Numbers.{fits_abs, int_sum_by_more}
 use Rattle.settlement.proofs.legs.put_legs.Goals as goal
@@ -42,9 +40,3 @@ loop-number-preserved c i within =
     ∙ ap (with_points (one leg)) (c.loop-number.invariant i within)
     ∙ points_more (int_sum_by one (take k legs)) (one leg) old
     ∙ ap (λ z. with_points z old) (sym (int_sum_by_more one legs k none c.loop-number-test.true))
-
-pub returns : goal.returns
-returns c i within =
-    let legs : List (ℕ × ℤ) = legs_by_party c.args.contract c.args.legs in
-    c.loop-number.invariant i within
-    ∙ ap (λ legs. with_points (given_to (is_number i) legs) (get_or c.args.fresh.now i no_holding)) (take_all c.loop-number.number-index legs c.loop-number-test.false)

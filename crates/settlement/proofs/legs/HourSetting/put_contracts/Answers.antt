@@ -1,5 +1,4 @@
 use Rattle.std.proofs.Common.{Bool, List, get_or, take, ℤ, None, Option, sym, ap, ◌∙◌, arith}
-use Rattle.std.proofs.lemmas.List.{take_all}
 use Rattle.tally.specs.Sums.{int_sum_by}
 use Rattle.forms.specs.declared.Contract.{Contract}
 use Rattle.settlement.specs.ContractFaults.{place_fits}
@@ -36,11 +35,3 @@ loop-place-preserved g c i within =
     ∙ ap (with_points (given (get_or places k None))) (c.loop-place.invariant i within)
     ∙ points_more (int_sum_by given (take k places)) (given (get_or places k None)) old
     ∙ ap (λ z. with_points z old) (sym (int_sum_by_more given places k None c.loop-place-test.true))
-
-pub returns : goal.returns
-returns g c i within =
-    let hour = c.args.self.now in
-    let setting : Setting = setting_of (g.F.ContractForm.meaning hour.setting.now.form.now) hour.setting.now in
-    let given : Option Contract → ℤ = given_in (is_number i) setting (posting_of hour.posting) in
-    c.loop-place.invariant i within
-    ∙ ap (λ places. with_points (int_sum_by given places) (get_or c.args.fresh.now i no_holding)) (take_all c.loop-place.place-index setting.places c.loop-place-test.false)

@@ -1,4 +1,4 @@
-use Rattle.std.proofs.Common.{◌+◌, ℤ, pos, ◌-ℤ◌, refl, ◌∙◌, arith, rules}
+use Rattle.std.proofs.Common.{◌+◌, ℤ, pos, ◌-ℤ◌, ◌∙◌, arith, rules}
 use lib.IntN.{+ℤ_idl, +ℤ_idr}
 use Rattle.tally.specs.declared.money.MoneyLine.TheVariants.{Market, Overcost}
 use Rattle.tally.specs.EnergyLaws.{energy_same}

@@ -1,12 +1,7 @@
-use Rattle.std.proofs.Common.{length, sym, arith}
+use Rattle.std.proofs.Common.{length, sym}
 use Rattle.settlement.specs.Posting.{Posting, posting_of}
 use Rattle.settlement.proofs.Checked.{head_long, posting_fits}
 use Rattle.settlement.proofs.settings.Setting.check_posting.Goals as goal
-
-pub invariant_of-posted : goal.invariant_of-posted
-invariant_of-posted g c =
-    let long = head_long (length c.args.self.now.agents.now) (posting_of c.args.posting.now) c.in_ok-check_head.ensures in
-    record { few = omega (arith, long, c.requires); each_has_one = long }
 
 pub invariant_of-result : goal.invariant_of-result
 invariant_of-result g c =
