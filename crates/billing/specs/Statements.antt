@@ -5,6 +5,6 @@ use Rattle.packets.specs.StatementPackets.{statement_read}
 use Rattle.billing.specs.declared.answers.Answer.{Answer}
 use Rattle.billing.specs.Answers.{of_packet, told}
 
--- bytes that are to be the packet of a statement, by the number and the place of what is wrong in them
+-- bytes that are to be a statement's packet, by the number and the place of what is wrong there
 abbrev pub statement_checked : (bytes : List ℕ) → Answer
 statement_checked bytes = told of_packet (result_err (statement_read bytes))

@@ -111,5 +111,5 @@ unfolding statement_format
 sized_statement s = sized_row opening_limits (λ opening. row (closing_limits opening) closed) (take 6 (statement_figures s)) (drop 6 (statement_figures s)) 0 refl
 
 -- a statement that was written reads back
-pub statement_written : (s : StatementFigures) (output : List ℕ) (end : ℕ) → sized statement_format (statement_figures s) 0 ≡ Ok end → statement_read (take end (overwritten (spelled_all (statement_figures s)) output)) ≡ Ok s
-statement_written s output end h = ap (λ w. and_then w (λ figures. Ok (statement_of figures))) (whole_written statement_format (statement_figures s) output end h) ∙ ap Ok (statement_back s)
+pub statement_reads : (s : StatementFigures) (output : List ℕ) (end : ℕ) → sized statement_format (statement_figures s) 0 ≡ Ok end → statement_read (take end (overwritten (spelled_all (statement_figures s)) output)) ≡ Ok s
+statement_reads s output end h = ap (λ w. and_then w (λ figures. Ok (statement_of figures))) (whole_written statement_format (statement_figures s) output end h) ∙ ap Ok (statement_back s)

@@ -1,4 +1,4 @@
--- Formats as data, and what reading and writing by a format come to. Places are counted from 0. Assumes nothing.
+-- Formats as data, and what reading and writing by a format come to. Assumes nothing.
 use Rattle.std.specs.Prelude.{ℕ, ◌≡◌, ◌≤◌, ◌<◌, ◌+◌, Bool, if◌then◌else◌, ◌&&◌, List, [], ◌∷◌, ◌++◌, length, drop, Option, Some, None, Result, Ok, Err, nat_le, slice_index, slice_index_or}
 use Rattle.std.specs.List.{flat_map}
 use Rattle.packets.specs.declared.faults.ByteFault.{ByteFault}
@@ -65,8 +65,8 @@ row (l ∷ limits) next = Field l (λ v. row limits (λ figures. next (v ∷ fig
 abbrev pub closed : List ℕ → Format
 closed figures = Over
 
--- A row was read from a place on, or a fault was met there: whatever may follow the row, the figures
--- from there to the end of the bytes are its own and those that follow.
+-- A row was read from a place on, or a fault was met there: whatever may follow the row, the
+-- figures from there to the end of the bytes are its own and those that follow.
 pub record RowRead (limits : List Limits) (bytes : List ℕ) (at : ℕ) (figures : List ℕ)
     (end : Result ℕ ByteFault) : Type 0 where
   pub goes_on : (next : List ℕ → Format) → whole (row limits next) bytes at

@@ -85,7 +85,7 @@ hour_of figures = record {
 abbrev pub hour_in : (bytes : List ℕ) → Result PacketHour ByteFault
 hour_in bytes = and_then (whole hour_format bytes 0) (λ figures. Ok (hour_of figures))
 
--- what is read where these places for lines are lent: they are to be as many as a packet may have lines, or more
+-- what is read where these places for lines are lent: as many as a packet may have lines, or more
 abbrev pub hour_read : (bytes : List ℕ) → (places : List PacketLine) → Result PacketHour PacketFault
 hour_read bytes places =
     if nat_lt (length places) most_lines then Err WrongSize else of_bytes (hour_in bytes)

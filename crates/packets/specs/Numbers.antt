@@ -2,8 +2,8 @@
 use Rattle.std.specs.Prelude.{ℕ, zero, suc, ◌+◌, ◌-◌, ◌*◌, ◌/◌, ◌%◌, if◌then◌else◌, List, [], ◌∷◌, ◌++◌, length, drop, Option, Some, None, ◌==◌, nat_lt, nat_le}
 use Rattle.packets.specs.declared.numbers.Number.{Number}
 
--- The bytes of a number, the lowest seven bits first: each byte but the last has 128 more. No number
--- has more groups than it counts.
+-- The bytes of a number, the lowest seven bits first: each byte but the last has 128 more. No
+-- number has more groups than it counts.
 unfoldable pub spelled_in : ℕ → ℕ → List ℕ
 spelled_in zero v = v ∷ []
 spelled_in (suc groups) v =
@@ -13,8 +13,8 @@ spelled_in (suc groups) v =
 unfoldable pub spelled : ℕ → List ℕ
 spelled v = spelled_in v v
 
--- A byte that says that more follows, before the number that follows: that is not 0, or its group was
--- not needed.
+-- A byte that says that more follows, before the number that follows: that is not 0, or its group
+-- was not needed.
 unfoldable pub continued : ℕ → Option Number → Option Number
 continued b None = None
 continued b (Some high) =

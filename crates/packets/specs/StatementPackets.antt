@@ -2,9 +2,10 @@
 use Rattle.std.specs.Prelude.{ℕ, ◌+◌, ◌*◌, ◌/◌, ◌%◌, ◌^◌, ◌-◌, if◌then◌else◌, ℤ, pos, negsuc, ◌+ℤ◌, List, [], ◌∷◌, Result, Ok, ◌==◌, slice_index}
 use Rattle.std.specs.Int.{int_wrap, w64}
 use Rattle.packets.specs.declared.faults.ByteFault.{ByteFault}
+use Rattle.packets.specs.declared.faults.PacketFault.{PacketFault}
 use Rattle.packets.specs.declared.rows.Limits.{Limits}
 use Rattle.packets.specs.declared.statements.StatementFigures.{StatementFigures}
-use Rattle.packets.specs.Formats.{Format, and_then, whole, row, closed, spelled_all, Spells}
+use Rattle.packets.specs.Formats.{Format, and_then, whole, row, closed, spelled_all, written, output_with, Spells}
 
 -- a signed number v as a number: 2 v, or below zero -2 v - 1, which is 2 n + 1 at v = -1 - n
 abbrev pub unsigned_of : ℤ → ℕ
@@ -26,7 +27,8 @@ just v = record { least = v; most = v }
 -- the state, 0 for open and 1 for closed; the agent, 1 to 64; the four lines
 abbrev pub opening_limits : List Limits
 opening_limits =
-    record { least = 0; most = 1 } ∷ record { least = 1; most = 64 } ∷ wide ∷ wide ∷ wide ∷ wide ∷ []
+    record { least = 0; most = 1 } ∷ record { least = 1; most = 64 }
+    ∷ wide ∷ wide ∷ wide ∷ wide ∷ []
 
 -- the sum of the four lines, in 64 bits
 abbrev pub balance_of : List ℕ → ℤ
@@ -34,7 +36,7 @@ balance_of opening =
     let line : ℕ → ℤ = λ k. signed_of (slice_index opening (2 + k)) in
     int_wrap w64 (line 0 +ℤ line 1 +ℤ line 2 +ℤ line 3)
 
--- the balance, which is the sum of the lines; the injected and the withdrawn energy; the peak and its hour
+-- the balance, which is the sum of the lines; injected and withdrawn energy; the peak and its hour
 abbrev pub closing_limits : List ℕ → List Limits
 closing_limits opening = just (unsigned_of (balance_of opening)) ∷ wide ∷ wide ∷ wide ∷ wide ∷ []
 
@@ -71,7 +73,15 @@ statement_of figures = record {
 
 -- what reading a packet answers
 abbrev pub statement_read : List ℕ → Result StatementFigures ByteFault
-statement_read bytes = and_then (whole statement_format bytes 0) (λ figures. Ok (statement_of figures))
+statement_read bytes =
+    and_then (whole statement_format bytes 0) (λ figures. Ok (statement_of figures))
+
+-- what writing a statement answers, and what it leaves of an output
+abbrev pub statement_written : StatementFigures → (output : List ℕ) → Result ℕ PacketFault
+statement_written s output = written statement_format (statement_figures s) output
+
+abbrev pub statement_output : StatementFigures → (output : List ℕ) → List ℕ
+statement_output s output = output_with statement_format (statement_figures s) output
 
 -- bytes are the only ones that are written for a statement
 abbrev pub StatementSpelledOnce : StatementFigures → List ℕ → Type 0

@@ -176,7 +176,7 @@ pub fn read_hour(bytes: &[u8], lines: &mut [PacketLine]) -> Result<HourHeading, 
     ensures value { result ≡ heading_read (hour_read bytes.now lines.old) }
     ensures lines { lines.new ≡ places_with (hour_read bytes.now lines.old) lines.old }
     ensures few { IfOk result (λ heading. heading.count ≤ most_lines) }
-    ensures once { IfOk result (λ heading. HourSpelledOnce (hour_with heading lines.new) bytes.now) }
+    ensures once { IfOk result (λ h. HourSpelledOnce (hour_with h lines.new) bytes.now) }
 {
     if lines.len() < MOST_LINES {
         return Err(PacketFault::WrongSize);

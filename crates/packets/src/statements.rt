@@ -1,9 +1,9 @@
 //! Statement packets: the figures of an agent's month.
 ghost use Rattle.std.specs.Prelude.{ℕ, ◌≡◌, ◌≤◌, ◌<◌, ◌+◌, ◌+ℤ◌, ◌^◌, IfOk, Ok, length, slice_index, take, drop, ◌++◌};
 ghost use Rattle.std.specs.Int.{int_wrap, w64};
-ghost use Rattle.packets.specs.Formats.{sized, output_with, written};
+ghost use Rattle.packets.specs.Formats.{sized};
 ghost use Rattle.packets.specs.Numbers.{overwritten};
-ghost use Rattle.packets.specs.StatementPackets.{unsigned_of, signed_of, balance_of, closing_limits, statement_format, statement_figures, statement_bytes, statement_of, statement_read, StatementSpelledOnce};
+ghost use Rattle.packets.specs.StatementPackets.{unsigned_of, signed_of, balance_of, closing_limits, statement_format, statement_figures, statement_bytes, statement_of, statement_read, statement_written, statement_output, StatementSpelledOnce};
 
 use crate::faults::{ByteFault, PacketFault};
 use crate::rows::{Limits, check_row, read_row, write_row};
@@ -174,8 +174,8 @@ fn put_statement(figures: &StatementFigures, output: &mut [u8])
 
 /// Writes a statement packet over the first bytes of an output, and answers how many those are. A refusal leaves the output as it was.
 pub fn write_statement(figures: &StatementFigures, output: &mut [u8]) -> Result<usize, PacketFault>
-    ensures value { result ≡ written statement_format (statement_figures figures.now) output.old }
-    ensures output { output.new ≡ output_with statement_format (statement_figures figures.now) output.old }
+    ensures value { result ≡ statement_written figures.now output.old }
+    ensures output { output.new ≡ statement_output figures.now output.old }
     ensures back { IfOk result (λ size. statement_read (take size output.new) ≡ Ok figures.now) }
 {
     let end = size_of_statement(figures)?;

@@ -1,7 +1,7 @@
 use Rattle.std.proofs.Common.{take, ap, ◌∙◌, sym, arith}
 use Rattle.packets.specs.StatementPackets.{statement_format, statement_figures, statement_read}
 use Rattle.packets.proofs.Formats.{sized_end, output_ok}
-use Rattle.packets.proofs.StatementSteps.{statement_written}
+use Rattle.packets.proofs.StatementSteps.{statement_reads}
 use Rattle.packets.proofs.statements.write_statement.Goals as goal
 
 pub put_statement-requires : goal.put_statement-requires
@@ -11,7 +11,7 @@ put_statement-requires c =
 pub returns-clause-back : goal.returns-clause-back
 returns-clause-back c =
     ap (λ output. statement_read (take c.in_ok-end.end output)) c.put_statement.ensures
-    ∙ statement_written c.args.figures.now c.args.output.now c.in_ok-end.end (sym c.size_of_statement.ensures ∙ c.in_ok-end.was)
+    ∙ statement_reads c.args.figures.now c.args.output.now c.in_ok-end.end (sym c.size_of_statement.ensures ∙ c.in_ok-end.was)
 
 pub returns-clause-output : goal.returns-clause-output
 returns-clause-output c =
