@@ -9,4 +9,3 @@ pub mod Withdrawal
 pub mod Entering
 pub mod Closing
 pub mod Statements
-pub mod Days

@@ -1,17 +1,17 @@
--- The statement of an agent, of a month that is open or closed. Assumes nothing.
-use Rattle.std.specs.Prelude.{ℕ, ◌-◌, ◌||◌, [], ◌∷◌, Option, Result, ◌==◌, nat_lt, slice_index_or}
+-- The statement of an agent, of a month that is open or closed, and a day of it. Assumes nothing.
+use Rattle.std.specs.Prelude.{ℕ, ◌+◌, ◌-◌, ◌*◌, ◌||◌, List, [], ◌∷◌, take, drop, Option, Result, ◌==◌, nat_lt, slice_index_or}
 use Rattle.std.specs.Int.{int_wrap, w64}
 use Rattle.tally.specs.declared.peak.Peak.{Peak}
 use Rattle.tally.specs.Lines.{balance_of}
 use Rattle.tally.specs.Money.{lines_of}
 use Rattle.tally.specs.Peak.{peak_of, no_peak, peak_joined}
-use Rattle.tally.specs.Total.{total_over}
+use Rattle.tally.specs.Total.{total, total_over}
 use Rattle.calendar.specs.Limits.{hours_of}
 use Rattle.forms.specs.Meaning.{Meaning}
 use Rattle.settlement.specs.declared.faults.BookFault.{BookFault}
 use Rattle.settlement.specs.declared.faults.BookFault.TheVariants.{OutsideBook}
 use Rattle.settlement.specs.Faults.{met_if, first_met, answer_of}
-use Rattle.settlement.specs.Holdings.{Holding, no_holding}
+use Rattle.settlement.specs.Holdings.{Holding, no_holding, holding_joined}
 use Rattle.book.specs.declared.months.MonthFigures.{MonthFigures}
 use Rattle.book.specs.declared.statements.Statement.{Statement}
 use Rattle.book.specs.Memory.{Memory, memory_fault}
@@ -46,3 +46,24 @@ statement_fault form f agent m =
 abbrev pub stated : Meaning → MonthFigures → (agent : ℕ) → Memory → Result Statement BookFault
 stated form f agent m =
     answer_of (statement_in (hours_of f.days) (agent - 1) m) (statement_fault form f agent m)
+
+-- ---- a day
+
+-- the entries of an agent's day, the twenty-four from its first hour on, both counted from 0
+abbrev pub day_of : (hours i day : ℕ) → List Holding → List Holding
+day_of hours i day entries = take 24 (drop (i * hours + 24 * day) entries)
+
+-- all of them together
+abbrev pub day_sum : (hours i day : ℕ) → List Holding → Holding
+day_sum hours i day entries = total no_holding holding_joined (day_of hours i day entries)
+
+-- the faults of a day: at last, that the agent or the day, both from 1, is not in the book
+abbrev pub day_fault : Meaning → MonthFigures → (agent day : ℕ) → Memory → Option BookFault
+day_fault form f agent day m =
+    let outside = (agent == 0 || nat_lt f.agents agent) || (day == 0 || nat_lt f.days day) in
+    first_met (memory_fault form f m ∷ met_if outside OutsideBook ∷ [])
+
+abbrev pub day_stated : Meaning → MonthFigures → (agent day : ℕ) → Memory → Result Holding BookFault
+day_stated form f agent day m =
+    let sum = day_sum (hours_of f.days) (agent - 1) (day - 1) m.entries in
+    answer_of sum (day_fault form f agent day m)

@@ -3,7 +3,7 @@ ghost use Rattle.std.specs.Prelude.{◌≡◌, ◌-◌, ◌<◌, ◌≤◌, not,
 ghost use Rattle.std.specs.Result.{result_err};
 ghost use Rattle.calendar.specs.Limits.{most_hours};
 ghost use Rattle.forms.specs.Limits.{most_contracts};
-ghost use Rattle.settlement.specs.ContractFaults.{number_known, contract_fault, covered_fault};
+ghost use Rattle.settlement.specs.ContractFaults.{number_known, taken_fault, contract_fault, covered_fault};
 ghost use Rattle.settlement.specs.Faults.{met_if};
 ghost use Rattle.book.specs.Entering.{enter_fault, entered, cancel_fault, cancelled};
 ghost use Rattle.book.specs.Lent.{memory_seen, memory_with};
@@ -37,6 +37,21 @@ fn place_of(number: u32) -> Result<usize, BookFault>
     Ok(number as usize - 1)
 }
 
+/// The contract place of a number that is free, or a refusal of one that is taken or that contracts
+/// cannot have.
+fn free_place(number: u32, contracts: &[Option<Contract>]) -> Result<usize, BookFault>
+    requires { length contracts.now ≡ most_contracts }
+    ensures fault { result_err result ≡ taken_fault contracts.now number }
+    ensures place { IfOk result (λ place. place ≡ number - 1) }
+    ensures within { IfOk result (λ place. place < most_contracts) }
+{
+    let place = place_of(number)?;
+    if contracts[place].is_some() {
+        return Err(BookFault::ContractNumber);
+    }
+    Ok(place)
+}
+
 /// Refuses a contract that covers an hour at which a posting stands.
 fn check_covered(contract: Contract, marks: &[u8]) -> Result<(), BookFault>
     requires within { contract.last < length marks.now }
@@ -58,7 +73,8 @@ fn check_terms<F: ContractForm>(
     contract: Contract,
     view: &View<'_, '_>,
 ) -> Result<(), BookFault>
-    ensures { let setting = setting_in (F.meaning form.now) (figures_in month) (memory_seen view.now) in
+    ensures { let memory = memory_seen view.now in
+        let setting = setting_in (F.meaning form.now) (figures_in month) memory in
         result_err result ≡ contract_fault setting contract }
 {
     let Pool { agents, contracts } = view.pool;
@@ -83,10 +99,7 @@ fn place_to_enter<F: ContractForm>(
     ensures within { IfOk result (λ place. place < length view.now.pool.contracts.now) }
 {
     view.check(form, month)?;
-    let place = place_of(numbered.number)?;
-    if view.pool.contracts[place].is_some() {
-        return Err(BookFault::ContractNumber);
-    }
+    let place = free_place(numbered.number, view.pool.contracts)?;
     check_terms(month, form, numbered.contract, view)?;
     check_covered(numbered.contract, view.marks)?;
     Ok(place)

@@ -4,10 +4,9 @@ ghost use Rattle.std.specs.List.{range_with_len};
 ghost use Rattle.tally.specs.Peak.{peak_of};
 ghost use Rattle.calendar.specs.Limits.{most_hours};
 ghost use Rattle.settlement.specs.Holdings.{no_holding};
-ghost use Rattle.book.specs.Days.{day_stated};
 ghost use Rattle.book.specs.Lent.{memory_seen};
 ghost use Rattle.book.specs.Months.{figures_in, figures_of, closed_figures_of};
-ghost use Rattle.book.specs.Statements.{stated, peak_over};
+ghost use Rattle.book.specs.Statements.{stated, day_stated, peak_over};
 
 use crate::memory::View;
 use crate::months::{ClosedMonth, Extent, OpenMonth};

@@ -5,7 +5,7 @@ use Rattle.tally.specs.Total.{total}
 use Rattle.settlement.specs.declared.faults.BookFault.TheVariants.{OutsideBook}
 use Rattle.settlement.specs.Faults.{answer_of, met_if}
 use Rattle.settlement.specs.Holdings.{no_holding, holding_joined}
-use Rattle.book.specs.Days.{day_sum, day_stated}
+use Rattle.book.specs.Statements.{day_sum, day_stated}
 use Rattle.book.specs.Lent.{memory_seen}
 use Rattle.book.specs.Memory.{memory_fault}
 use Rattle.calendar.specs.Limits.{hours_of}
