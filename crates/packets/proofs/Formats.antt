@@ -1,7 +1,7 @@
 -- Reading and writing by one format undo each other, once for every format. Assumes nothing.
 use Rattle.std.proofs.Common.{◌≡◌, ℕ, ◌+◌, ◌<◌, ◌≤◌, Bool, true, false, cond, leb, List, [], ◌∷◌, ◌++◌, length, take, drop, get_or, Option, Some, None, Result, Ok, Err, Fits, w8, refl, sym, ap, ◌∙◌, arith}
 use Rattle.std.proofs.Math.Facts.{Fits-of_lt}
-use Rattle.std.proofs.lemmas.List.{append_assoc, take_at, drop-drop, drop_at, drop_all, length-append, length-drop, get_or-drop}
+use Rattle.std.proofs.lemmas.List.{append-nil, append_assoc, take_at, drop-drop, drop_at, drop_all, length-append, length-drop, get_or-drop}
 use Rattle.std.proofs.lemmas.Bool.Decides.{nat_tests}
 use Rattle.packets.specs.declared.faults.ByteFault.{ByteFault}
 use Rattle.packets.specs.declared.faults.ByteFault.TheVariants.{Malformed}
@@ -131,11 +131,18 @@ whole_written f figures output end h =
     let bytes = spelled_all figures in
     ap (λ xs. whole f xs 0) (take_at bytes (drop (length bytes) output) end (omega (arith, sized_end f figures 0 end h))) ∙ reads_back f figures bytes 0 end h refl
 
--- whether bytes are left over
-pub over_some : (bytes : List ℕ) (at : ℕ) → at < length bytes → whole Over bytes at ≡ Err (Malformed at)
+over_some : (bytes : List ℕ) (at : ℕ) → at < length bytes → whole Over bytes at ≡ Err (Malformed at)
 unfolding whole
 over_some bytes at h = grind (arith, nat_tests)
 
-pub over_none : (bytes : List ℕ) (at : ℕ) → length bytes ≤ at → whole Over bytes at ≡ Ok []
+over_none : (bytes : List ℕ) (at : ℕ) → length bytes ≤ at → whole Over bytes at ≡ Ok []
 unfolding whole
 over_none bytes at h = grind (arith, nat_tests)
+
+-- two parts were read, and bytes are left over
+pub left_over : (bytes xs ys : List ℕ) (at : ℕ) → at < length bytes → and_then (and_then (whole Over bytes at) (before ys)) (before xs) ≡ Err (Malformed at)
+left_over bytes xs ys at h = ap (λ w. and_then (and_then w (before ys)) (before xs)) (over_some bytes at h)
+
+-- or none are
+pub none_left : (bytes xs ys : List ℕ) (at : ℕ) → length bytes ≤ at → and_then (and_then (whole Over bytes at) (before ys)) (before xs) ≡ Ok (xs ++ ys)
+none_left bytes xs ys at h = ap (λ w. and_then (and_then w (before ys)) (before xs)) (over_none bytes at h) ∙ ap (λ vs. Ok (xs ++ vs)) (append-nil ys)

@@ -2,7 +2,7 @@
 use Rattle.std.proofs.Common.{◌≡◌, ℕ, suc, ◌+◌, ◌-◌, ◌<◌, ◌≤◌, true, cond, ltb, List, [], ◌∷◌, ◌++◌, length, take, drop, get_or, set, slice_index, Result, Ok, Err, refl, sym, ap, ◌∙◌, arith}
 use Rattle.std.specs.List.{flat_map}
 use Rattle.std.proofs.lemmas.Grind.{flat_map-append}
-use Rattle.std.proofs.lemmas.List.{take_more_set, append-nil, append_assoc, drop_all, at_drop_more}
+use Rattle.std.proofs.lemmas.List.{take_more_set, append_assoc, drop_all, at_drop_more}
 use Rattle.std.proofs.lemmas.Bool.Decides.{nat_tests}
 use Rattle.packets.specs.declared.faults.ByteFault.{ByteFault}
 use Rattle.packets.specs.declared.faults.ByteFault.TheVariants.{Malformed}
@@ -15,7 +15,7 @@ use Rattle.packets.specs.Formats.{Over, and_then, before, whole, sized, spelled_
 use Rattle.packets.specs.Hours.{PacketHour, packet_hour, most_lines}
 use Rattle.packets.specs.HourPackets.{narrow, heading_limits, line_limits, lines_format, hour_format, LinesRead, line_figures, lines_figures, hour_figures, hour_of, hour_in, lines_of, hour_read, HourReadsBack}
 use Rattle.packets.specs.Numbers.{spelled}
-use Rattle.packets.proofs.Formats.{before_before, cond_ok, over_some, over_none}
+use Rattle.packets.proofs.Formats.{before_before, cond_ok, none_left}
 use Rattle.packets.proofs.RowSteps.{sized_row, pieces_next, listed}
 
 -- ---- reading
@@ -63,20 +63,11 @@ hour_lines bytes heading from lines r head count read =
     hour_head bytes heading (Ok from) head
     ∙ ap (λ w. and_then w (before heading)) (ap (λ n. whole (lines_format n) bytes from) (sym count) ∙ read.goes_on)
 
--- bytes are left over
-pub hour_left_over : (bytes heading : List ℕ) (from end : ℕ) (lines : List PacketLine) → RowRead heading_limits bytes 0 heading (Ok from) → length lines ≡ slice_index heading 2 → LinesRead bytes from lines (Ok end) → end < length bytes →
-    whole hour_format bytes 0 ≡ Err (Malformed end)
-hour_left_over bytes heading from end lines head count read some =
-    hour_lines bytes heading from lines (Ok end) head count read
-    ∙ ap (λ w. and_then (and_then w (before (lines_figures lines))) (before heading)) (over_some bytes end some)
-
 -- all is read
 pub hour_whole : (bytes heading : List ℕ) (from end : ℕ) (lines : List PacketLine) → RowRead heading_limits bytes 0 heading (Ok from) → length lines ≡ slice_index heading 2 → LinesRead bytes from lines (Ok end) → length bytes ≤ end → length heading ≡ 3 →
     whole hour_format bytes 0 ≡ Ok (hour_figures (packet_hour (slice_index heading 0) (slice_index heading 1) lines))
 hour_whole bytes heading from end lines head count read none three =
-    hour_lines bytes heading from lines (Ok end) head count read
-    ∙ ap (λ w. and_then (and_then w (before (lines_figures lines))) (before heading)) (over_none bytes end none)
-    ∙ ap (λ vs. Ok (heading ++ vs)) (append-nil (lines_figures lines))
+    hour_lines bytes heading from lines (Ok end) head count read ∙ none_left bytes heading (lines_figures lines) end none
     ∙ ap (λ vs. Ok (vs ++ lines_figures lines)) (listed 3 heading three)
     ∙ ap (λ n. Ok (slice_index heading 0 ∷ slice_index heading 1 ∷ n ∷ lines_figures lines)) (sym count)
 

@@ -1,14 +1,12 @@
 -- A statement packet's two rows, and its figures. Assumes nothing.
-use Rattle.std.proofs.Common.{◌≡◌, ℕ, ◌+◌, ◌*◌, ◌/◌, ◌%◌, ◌<◌, ◌≤◌, Bool, true, false, cond, eqb, ℤ, pos, negsuc, List, ◌++◌, length, take, drop, get_or, Result, Ok, Err, refl, ap, ◌∙◌, arith}
-use Rattle.std.proofs.lemmas.List.{append-nil}
+use Rattle.std.proofs.Common.{◌≡◌, ℕ, ◌+◌, ◌*◌, ◌/◌, ◌%◌, Bool, true, false, cond, eqb, ℤ, pos, negsuc, List, ◌++◌, length, take, drop, get_or, Result, Ok, refl, ap, ◌∙◌, arith}
 use Rattle.std.proofs.lemmas.Bool.Decides.{nat_tests}
 use Rattle.packets.specs.declared.faults.ByteFault.{ByteFault}
-use Rattle.packets.specs.declared.faults.ByteFault.TheVariants.{Malformed}
 use Rattle.packets.specs.declared.statements.StatementFigures.{StatementFigures}
 use Rattle.packets.specs.Numbers.{overwritten}
 use Rattle.packets.specs.Formats.{Over, and_then, before, whole, sized, spelled_all, row, closed, RowRead}
 use Rattle.packets.specs.StatementPackets.{unsigned_of, signed_of, opening_limits, closing_limits, statement_format, statement_figures, statement_of, statement_read}
-use Rattle.packets.proofs.Formats.{over_some, over_none, whole_written}
+use Rattle.packets.proofs.Formats.{whole_written}
 use Rattle.packets.proofs.RowSteps.{sized_row, listed, placed}
 
 -- the opening of a statement was read, or a fault was met there
@@ -22,21 +20,6 @@ pub statement_closing : (bytes opening closing : List ℕ) (middle : ℕ) (r : R
     whole statement_format bytes 0 ≡ and_then (and_then r (λ k. and_then (whole Over bytes k) (before closing))) (before opening)
 statement_closing bytes opening closing middle r first second =
     statement_opening bytes opening (Ok middle) first ∙ ap (λ w. and_then w (before opening)) (second.goes_on closed)
-
--- bytes are left over
-pub statement_left_over : (bytes opening closing : List ℕ) (middle end : ℕ) → RowRead opening_limits bytes 0 opening (Ok middle) → RowRead (closing_limits opening) bytes middle closing (Ok end) → end < length bytes →
-    whole statement_format bytes 0 ≡ Err (Malformed end)
-statement_left_over bytes opening closing middle end first second some =
-    statement_closing bytes opening closing middle (Ok end) first second
-    ∙ ap (λ w. and_then (and_then w (before closing)) (before opening)) (over_some bytes end some)
-
--- all is read
-pub statement_whole : (bytes opening closing : List ℕ) (middle end : ℕ) → RowRead opening_limits bytes 0 opening (Ok middle) → RowRead (closing_limits opening) bytes middle closing (Ok end) → length bytes ≤ end →
-    whole statement_format bytes 0 ≡ Ok (opening ++ closing)
-statement_whole bytes opening closing middle end first second none =
-    statement_closing bytes opening closing middle (Ok end) first second
-    ∙ ap (λ w. and_then (and_then w (before closing)) (before opening)) (over_none bytes end none)
-    ∙ ap (λ vs. Ok (opening ++ vs)) (append-nil closing)
 
 -- a signed number is the one that its number stands for
 pub signed_back : (v : ℤ) → signed_of (unsigned_of v) ≡ v

@@ -5,8 +5,8 @@ use Rattle.packets.specs.declared.rows.Limits.{Limits}
 use Rattle.packets.specs.declared.statements.StatementFigures.{StatementFigures}
 use Rattle.packets.specs.Formats.{and_then, whole, RowRead, Spells}
 use Rattle.packets.specs.StatementPackets.{statement_format, statement_figures, statement_of}
-use Rattle.packets.proofs.Formats.{spells}
-use Rattle.packets.proofs.StatementSteps.{statement_opening, statement_closing, statement_left_over, statement_whole, figures_back}
+use Rattle.packets.proofs.Formats.{spells, left_over, none_left}
+use Rattle.packets.proofs.StatementSteps.{statement_opening, statement_closing, figures_back}
 use Rattle.packets.proofs.statements.read_statement.Goals as goal
 
 -- the statement of figures that were read, or the fault of the bytes
@@ -31,13 +31,13 @@ returns-in_err-end-clause-value c =
 pub returns-then-end-bytes-clause-value : goal.returns-then-end-bytes-clause-value
 returns-then-end-bytes-clause-value c =
     let second = row_by c.args.bytes.now _ _ _ c.closing.ensures c.in_ok-end.ensures.read in
-    sym (ap stated (statement_left_over c.args.bytes.now _ _ _ _ c.in_ok-middle.ensures.read second c.if-end-bytes.true))
+    sym (ap stated (statement_closing c.args.bytes.now _ _ _ _ c.in_ok-middle.ensures.read second ∙ left_over c.args.bytes.now _ _ _ c.if-end-bytes.true))
 
 -- all of the packet
 known : (c : goal.After-of) → whole statement_format c.args.bytes.now 0 ≡ Ok (c.read_row.new.figures ++ c.read_row-2.new.figures)
 known c =
     let second = row_by c.args.bytes.now _ _ _ c.closing.ensures c.in_ok-end.ensures.read in
-    statement_whole c.args.bytes.now _ _ _ _ c.in_ok-middle.ensures.read second c.if-end-bytes.false
+    statement_closing c.args.bytes.now _ _ _ _ c.in_ok-middle.ensures.read second ∙ none_left c.args.bytes.now _ _ _ c.if-end-bytes.false
 
 pub returns-clause-value : goal.returns-clause-value
 returns-clause-value c = ap Ok c.of.ensures ∙ sym (ap stated (known c))

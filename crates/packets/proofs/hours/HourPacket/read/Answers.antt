@@ -5,8 +5,8 @@ use Rattle.packets.specs.declared.hours.PacketLine.{PacketLine}
 use Rattle.packets.specs.Formats.{and_then, whole}
 use Rattle.packets.specs.Hours.{PacketHour, packet_hour}
 use Rattle.packets.specs.HourPackets.{hour_format, hour_figures, hour_of, HourSpelledOnce}
-use Rattle.packets.proofs.Formats.{spells}
-use Rattle.packets.proofs.HourSteps.{hour_head, hour_lines, hour_left_over, hour_whole, hour_is}
+use Rattle.packets.proofs.Formats.{spells, left_over}
+use Rattle.packets.proofs.HourSteps.{hour_head, hour_lines, hour_whole, hour_is}
 use Rattle.packets.proofs.hours.HourPacket.read.Goals as goal
 
 -- the hour of figures that were read, or the fault of the bytes
@@ -29,7 +29,7 @@ pub returns-then-end-bytes-clause-value : goal.returns-then-end-bytes-clause-val
 returns-then-end-bytes-clause-value c =
     let few : slice_index c.read_row.new.figures 2 ≤ 64 = c.in_ok-from.ensures.within 2 (lit< tt) in
     let counted = c.read_lines.auto.lines ∙ length-take-le (slice_index c.read_row.new.figures 2) _ (omega (arith, few)) in
-    sym (ap said (hour_left_over c.args.bytes.now _ _ _ _ c.in_ok-from.ensures.read counted c.in_ok-end.ensures.read c.if-end-bytes.true))
+    sym (ap said (hour_lines c.args.bytes.now _ _ _ _ c.in_ok-from.ensures.read counted c.in_ok-end.ensures.read ∙ left_over c.args.bytes.now _ _ _ c.if-end-bytes.true))
 
 -- as many lines were read as the heading counts
 counted : (c : goal.Else-end-bytes) → length c.read_lines.new.lines ≡ slice_index c.read_row.new.figures 2
