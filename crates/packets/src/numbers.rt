@@ -37,6 +37,7 @@ pub(crate) fn read_number(bytes: &[u8], most: u64) -> Option<Number>
 }
 
 /// How many bytes spell a number.
+#[tactic(auto, using(crate::proofs::Spelling::spelled_low, crate::proofs::Spelling::spelled_more, crate::proofs::Spelling::spelled_ten))]
 pub(crate) fn size_of_number(value: u64) -> usize
     ensures { result ≡ length (spelled value) }
 {
@@ -48,6 +49,7 @@ pub(crate) fn size_of_number(value: u64) -> usize
 }
 
 /// Writes a number over the first bytes of an output that has room for it.
+#[tactic(auto, using(crate::proofs::Spelling::spelled_low, crate::proofs::Spelling::spelled_more))]
 pub(crate) fn write_number(value: u64, output: &mut [u8])
     requires { length (spelled value) ≤ length output.old }
     ensures { output.new ≡ overwritten (spelled value) output.old }

@@ -3,12 +3,6 @@ use Rattle.std.proofs.lemmas.List.{length-take, length-drop}
 use Rattle.packets.proofs.Spelling.{spelled_low, spelled_more, over_low, over_more}
 use Rattle.packets.proofs.numbers.+write_number.Goals as goal
 
-pub bounds-output-0 : goal.bounds-output-0
-bounds-output-0 t c = omega (arith, ap length (spelled_low c.args.value c.if-value-lt128.true))
-
-pub bounds-output-0-else-value-lt128 : goal.bounds-output-0-else-value-lt128
-bounds-output-0-else-value-lt128 t c = omega (arith, ap length (spelled_more c.args.value c.if-value-lt128.false))
-
 pub slice_bounds-write_number-count : goal.slice_bounds-write_number-count
 slice_bounds-write_number-count t c = omega (arith, ap length (spelled_more c.args.value c.if-value-lt128.false), length-set {A = ℕ})
 
