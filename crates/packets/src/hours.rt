@@ -221,6 +221,7 @@ fn put_hour(hour: u32, price: u32, lines: &[PacketLine], output: &mut [u8])
 }
 
 /// Writes an hour packet over the first bytes of an output, and answers how many those are. A refusal leaves the output as it was.
+#[tactic(auto, using(crate::proofs::Formats::sized_end))]
 pub fn write_hour(
     hour: u32,
     price: u32,

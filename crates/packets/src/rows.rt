@@ -66,6 +66,7 @@ pub(crate) fn read_row(
 }
 
 /// Where a row of numbers that starts at this byte would end, if each is within its limits.
+#[tactic(auto, using(crate::proofs::Spelling::spelled_ten))]
 pub(crate) fn check_row(limits: &[Limits], figures: &[u64], from: usize) -> Result<usize, ByteFault>
     requires long { length figures.now ≡ length limits.now }
     requires near { from + 10 * length limits.now < 2 ^ 32 }

@@ -60,6 +60,7 @@ fn unfold_sign(number: u64) -> i64
 }
 
 /// The sum of four lines, in 64 bits.
+#[tactic(auto, using(std::proofs::lemmas::Int::wraps))]
 fn balance(market: i64, contract: i64, overcost: i64, power: i64) -> i64
     ensures { result ≡ int_wrap w64 (market +ℤ contract +ℤ overcost +ℤ power) }
 {

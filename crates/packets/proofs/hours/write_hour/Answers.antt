@@ -1,14 +1,9 @@
-use Rattle.std.proofs.Common.{List, ℕ, ◌∙◌, sym, arith, subst, take}
+use Rattle.std.proofs.Common.{List, ℕ, ◌∙◌, sym, subst, take}
 use Rattle.packets.specs.Hours.{packet_hour}
 use Rattle.packets.specs.HourPackets.{hour_format, hour_figures, HourReadsBack}
-use Rattle.packets.proofs.Formats.{sized_end, whole_written}
+use Rattle.packets.proofs.Formats.{whole_written}
 use Rattle.packets.proofs.HourSteps.{hour_back}
 use Rattle.packets.proofs.hours.write_hour.Goals as goal
-
-pub put_hour-requires : goal.put_hour-requires
-put_hour-requires c =
-    let h = packet_hour c.args.hour c.args.price c.args.lines.now in
-    omega (arith, sized_end hour_format (hour_figures h) 0 c.in_ok-end.end (sym c.size_of_hour.ensures ∙ c.in_ok-end.was))
 
 pub returns-clause-back : goal.returns-clause-back
 returns-clause-back c =

@@ -1,6 +1,6 @@
 use Rattle.std.proofs.Common.{length, ℕ, ap, arith, length-set}
 use Rattle.std.proofs.lemmas.List.{length-take, length-drop}
-use Rattle.packets.proofs.Spelling.{spelled_low, spelled_more, over_low, over_more}
+use Rattle.packets.proofs.Spelling.{spelled_more, over_low, over_more}
 use Rattle.packets.proofs.numbers.+write_number.Goals as goal
 
 pub slice_bounds-write_number-count : goal.slice_bounds-write_number-count

@@ -8,9 +8,6 @@ pub returns-then-not-has-clause-value : goal.returns-then-not-has-clause-value
 returns-then-not-has-clause-value c =
     sym (c.loop-i.invariant.checked ∙ sized_next c.args.limits.now c.loop-i.i c.args.figures.now c.loop-i.at false c.loop-i-test.true (omega arith) (sym c.has.ensures ∙ c.if-not-has.true))
 
-pub overflow_add-at : goal.overflow_add-at
-overflow_add-at c = record { fits = omega (arith, spelled_ten (get_or c.args.figures.now c.loop-i.i 0) (c.type_inv.figures c.loop-i.i).fits) }
-
 pub loop-i-preserved : goal.loop-i-preserved
 loop-i-preserved c =
     let i = c.loop-i.i in
