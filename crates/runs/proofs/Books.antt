@@ -1,33 +1,42 @@
 -- A book that was opened and has heard any list of requests: its memory keeps its limits, and it was run as the rules say. Assumes nothing.
-use Rattle.std.proofs.Common.{◌≡◌, ℕ, ◌*◌, ◌<◌, ◌≤◌, Bool, true, false, cond, not, ◌||◌, ltb, leb, List, [], ◌∷◌, map, length, replicate, nat_abs, None, Option, sym, refl, ap, ◌∙◌, subst, arith}
+use Rattle.std.proofs.Common.{◌≡◌, ℕ, ◌*◌, ◌<◌, ◌≤◌, Bool, true, false, cond, not, ◌||◌, ltb, leb, List, [], ◌∷◌, map, length, replicate, None, Option, sym, refl, ap, ◌∙◌, subst, arith, w64}
 use mathlib.Core.List.{map-map}
 use Rattle.std.specs.List.{range_with_len, list_all}
-use Rattle.std.proofs.lemmas.List.FromFn.{get_or-map-range_with_len}
-use Rattle.std.proofs.lemmas.Bool.{and_parts, or_parts, not-false, leb-true, ltb-false, eqb-true}
+use Rattle.std.specs.Int.{int_wrap}
+use Rattle.std.proofs.lemmas.Int.{int_wrap_fits}
+use Rattle.std.proofs.lemmas.List.FromFn.{length-map-range_with_len, get_or-map-range_with_len}
+use Rattle.std.proofs.lemmas.Bool.{and_parts, or_parts, not-false, leb-true, ltb-false, eqb-true, eq-eqb, le-ltb}
 use Rattle.forms.specs.Meaning.{Meaning, Keeps}
 use Rattle.settlement.specs.declared.faults.BookFault.{BookFault}
-use Rattle.settlement.specs.declared.faults.BookFault.TheVariants.{WrongSize, OutsideBook}
+use Rattle.settlement.specs.declared.faults.BookFault.TheVariants.{WrongSize, StoredOutside, OutsideBook}
 use Rattle.settlement.specs.Agents.{agent_fits}
 use Rattle.settlement.specs.Faults.{met_if, first_met}
 use Rattle.settlement.specs.Holdings.{no_holding}
-use Rattle.settlement.specs.Sums.{sum_to_ℤ}
-use Rattle.settlement.proofs.Measured.{unmet}
-use Rattle.settlement.proofs.Sums.{sum_to_ℤ_same, map_counting_same}
+use Rattle.tally.specs.Sums.{sum_to_ℤ}
+use Rattle.tally.proofs.Numbers.{sum_to_ℤ_same, sum_to_ℤ_abs, fits_abs, map_counting_same}
+use Rattle.forms.specs.Limits.{most_agents, most_contracts}
+use Rattle.calendar.specs.Calendar.{calendar_fits}
+use Rattle.calendar.specs.Limits.{hours_of, most_days}
+use Rattle.settlement.specs.declared.states.State.TheVariants.{Open}
+use Rattle.settlement.proofs.FaultTables.{unmet, NoneMet, first_met_none}
 use Rattle.standing.specs.Law.{Book, Ran}
 use Rattle.standing.specs.Requests.{Opening, count_in, hours_in, Request, without_contracts, told_without}
-use Rattle.standing.specs.Standing.{Standing, nothing_stands, after, open'}
-use Rattle.standing.specs.Worked.{worked, balance_of, Reply, replies_from}
+use Rattle.standing.specs.Limits.{most_balance}
+use Rattle.standing.specs.Replies.{Reply, replies_from}
+use Rattle.standing.specs.Standing.{Standing, nothing_stands}
+use Rattle.standing.specs.Turns.{after}
+use Rattle.standing.specs.Worked.{worked, agent_balance, balances_after}
 use Rattle.standing.proofs.Bounds.{balance_abs}
-use Rattle.standing.proofs.Checked.{NoneMet, first_met_none}
 use Rattle.standing.proofs.Sound.{Opened, Sound}
 use Rattle.standing.proofs.Soundness.{sound_none, sound_after}
 use Rattle.book.specs.declared.months.MonthFigures.{MonthFigures}
 use Rattle.book.specs.declared.statements.Statement.{Statement}
-use Rattle.book.specs.Calls.{open_fault, emptied, statement_in}
-use Rattle.book.specs.Memory.{Memory, sized, stored_fits, size_fault, memory_of}
-use Rattle.book.specs.Months.{hours_of, size_known, month_figures}
+use Rattle.book.specs.Memory.{Memory, sized, stored_fits, size_fault, memory_fault, memory_of}
+use Rattle.book.specs.Months.{size_known, month_figures}
+use Rattle.book.specs.Opening.{open_fault, emptied}
+use Rattle.book.specs.Statements.{statement_in}
 use Rattle.runs.specs.Reading.{opening_of, reply_of, worked_in}
-use Rattle.runs.specs.Runs.{Kept, kept_of, answers_to, kept_after, no_statement, balance_at, statements_in}
+use Rattle.runs.specs.Runs.{Kept, kept_of, answers_to, kept_after, no_statement, balance_at, statements_in, statements_fault, together}
 use Rattle.runs.proofs.Fits.{held_fits}
 use Rattle.runs.proofs.Holds.{figures_of_opening, Holds}
 use Rattle.runs.proofs.Keeps.{holds_emptied}
@@ -47,17 +56,17 @@ told_by contracts requests told = cond contracts told (told_without requests tol
 module _ (f : MonthFigures) (m : Memory) (opens : open_fault f m ≡ None) where
   -- the book that was opened
   abbrev pub opening : Opening
-  opening = opening_of f.days f.weekday m.agents
+  opening = opening_of f m.agents
 
   -- the faults of an opening
   abbrev rows : List (Option BookFault)
-  rows = met_if (not (size_known f)) OutsideBook ∷ size_fault f.agents (hours_of f.days) m ∷ met_if (ltb 6 f.weekday || not (list_all agent_fits m.agents)) OutsideBook ∷ []
+  rows = met_if (not (size_known f)) OutsideBook ∷ size_fault f m ∷ met_if (not (calendar_fits f.calendar) || not (list_all agent_fits m.agents)) OutsideBook ∷ []
 
   -- none was met
   none_met : NoneMet rows
   none_met = first_met_none rows opens
 
-  pub opens_sized : sized f.agents (hours_of f.days) m ≡ true
+  pub opens_sized : sized f m ≡ true
   opens_sized = not-false _ (unmet _ _ (sym none_met.1.0))
 
   pub agents_long : count_in opening ≡ f.agents
@@ -67,23 +76,23 @@ module _ (f : MonthFigures) (m : Memory) (opens : open_fault f m ≡ None) where
   is_opened =
       let known = not-false _ (unmet _ _ (sym none_met.0)) in
       let few = and_parts (leb 1 f.agents) _ known in
-      let most = and_parts (leb f.agents 64) _ few.1 in
+      let most = and_parts (leb f.agents most_agents) _ few.1 in
       let days = and_parts (leb 1 f.days) _ most.1 in
-      let last = or_parts (ltb 6 f.weekday) (not (list_all agent_fits m.agents)) (unmet _ _ (sym none_met.1.1.0)) in
+      let last = or_parts (not (calendar_fits f.calendar)) (not (list_all agent_fits m.agents)) (unmet _ _ (sym none_met.1.1.0)) in
       record {
         some_agents = omega (arith, agents_long, leb-true 1 f.agents few.0);
-        few_agents = omega (arith, agents_long, leb-true f.agents 64 most.0);
+        few_agents = omega (arith, agents_long, leb-true f.agents most_agents most.0);
         some_days = leb-true 1 f.days days.0;
-        few_days = leb-true f.days 31 days.1;
-        weekday = ltb-false 6 f.weekday last.0;
+        few_days = leb-true f.days most_days days.1;
+        calendar = not-false _ last.0;
         agents = not-false _ last.1;
       }
 
   pub same_figures : figures_of_opening opening ≡ f
-  same_figures = ap (λ n. month_figures n f.days f.weekday) agents_long
+  same_figures = ap (λ n. month_figures n f.days f.calendar) agents_long
 
   -- memory of the size of a book of these figures, part by part
-  sizes : (length m.accounts ≡ f.agents) × (length m.contracts ≡ 64) × (length m.marks ≡ hours_of f.days) × (length m.entries ≡ f.agents * hours_of f.days)
+  sizes : (length m.accounts ≡ f.agents) × (length m.contracts ≡ most_contracts) × (length m.marks ≡ hours_of f.days) × (length m.entries ≡ f.agents * hours_of f.days)
   sizes =
       let a = and_parts _ _ opens_sized in
       let b = and_parts _ _ a.1 in
@@ -94,7 +103,7 @@ module _ (f : MonthFigures) (m : Memory) (opens : open_fault f m ≡ None) where
   pub accounts_sized : length m.accounts ≡ f.agents
   accounts_sized = sizes.0
 
-  pub contracts_sized : length m.contracts ≡ 64
+  pub contracts_sized : length m.contracts ≡ most_contracts
   contracts_sized = sizes.1
 
   pub marks_sized : length m.marks ≡ hours_of f.days
@@ -104,9 +113,9 @@ module _ (f : MonthFigures) (m : Memory) (opens : open_fault f m ≡ None) where
   entries_sized = sizes.3
 
   -- memory of the same agents and the same size can be opened as well, and is emptied to the same
-  pub opens_same : (m' : Memory) → m'.agents ≡ m.agents → sized f.agents (hours_of f.days) m' ≡ true → open_fault f m' ≡ None
+  pub opens_same : (m' : Memory) → m'.agents ≡ m.agents → sized f m' ≡ true → open_fault f m' ≡ None
   opens_same m' agents size =
-      (λ t. first_met (met_if (not (size_known f)) OutsideBook ∷ met_if (not ((size ∙ sym opens_sized) t)) WrongSize ∷ met_if (ltb 6 f.weekday || not (list_all agent_fits (agents t))) OutsideBook ∷ []))
+      (λ t. first_met (met_if (not (size_known f)) OutsideBook ∷ met_if (not ((size ∙ sym opens_sized) t)) WrongSize ∷ met_if (not (calendar_fits f.calendar) || not (list_all agent_fits (agents t))) OutsideBook ∷ []))
       ∙ opens
 
 module _ (f : MonthFigures) (m m' : Memory) (opens : open_fault f m ≡ None) (opens' : open_fault f m' ≡ None) (agents : m'.agents ≡ m.agents) where
@@ -127,7 +136,7 @@ module _ (form : Meaning) (keeps : Keeps form) (f : MonthFigures) (m : Memory) (
 
   -- the book as it was opened
   abbrev pub start : Kept
-  start = kept_of open' (emptied m)
+  start = kept_of Open (emptied m)
 
   -- it holds that nothing stands
   start_holds : Holds form o nothing_stands start
@@ -158,16 +167,16 @@ module _ (form : Meaning) (keeps : Keeps form) (f : MonthFigures) (m : Memory) (
     kept_holds = subst (λ g. Holds form o standing (kept_after contracts form g requests start)) (same_figures f m opens) (holds_by contracts)
 
     -- so its memory has its size and keeps every limit
-    kept_fits : (sized (count_in o) (hours_in o) kept.memory ≡ true) × (stored_fits form (hours_in o) kept.memory ≡ true)
+    kept_fits : (sized (figures_of_opening o) kept.memory ≡ true) × (stored_fits form (figures_of_opening o) kept.memory ≡ true)
     kept_fits = held_fits form keeps o (is_opened f m opens) standing standing_sound kept.memory kept_holds.memory
 
     -- its size
-    pub kept_sized : sized f.agents (hours_of f.days) kept.memory ≡ true
-    kept_sized = ap (λ n. sized n (hours_of f.days) kept.memory) (sym (agents_long f m opens)) ∙ kept_fits.0
+    pub kept_sized : sized f kept.memory ≡ true
+    kept_sized = ap (λ g. sized g kept.memory) (sym (same_figures f m opens)) ∙ kept_fits.0
 
     -- its limits
-    pub kept_stored : stored_fits form (hours_of f.days) kept.memory ≡ true
-    kept_stored = kept_fits.1
+    pub kept_stored : stored_fits form f kept.memory ≡ true
+    kept_stored = ap (λ g. stored_fits form g kept.memory) (sym (same_figures f m opens)) ∙ kept_fits.1
 
     -- its memory can be opened anew
     pub kept_opens : open_fault f kept.memory ≡ None
@@ -176,6 +185,17 @@ module _ (form : Meaning) (keeps : Keeps form) (f : MonthFigures) (m : Memory) (
     -- and is emptied to the same
     pub kept_emptied : emptied kept.memory ≡ emptied m
     kept_emptied = emptied_same f m kept.memory opens kept_opens kept_holds.memory.agents
+
+    -- and is met with no fault
+    kept_memory : memory_fault form f kept.memory ≡ None
+    kept_memory = λ t. first_met (met_if (not (kept_sized t)) WrongSize ∷ met_if (not (kept_stored t)) StoredOutside ∷ [])
+
+    -- and gives every agent's statement, where there is a place for each
+    pub kept_states : (places : ℕ) → places ≡ length m.agents → statements_fault form f places kept.memory ≡ None
+    kept_states places long =
+        let agents : places ≡ f.agents = long ∙ agents_long f m opens in
+        let some : 1 ≤ f.agents = omega (arith, agents_long f m opens, (is_opened f m opens).some_agents) in
+        λ t. first_met (met_if (not (eq-eqb places f.agents agents t)) WrongSize ∷ first_met (kept_memory t ∷ met_if (le-ltb f.agents 1 some t) OutsideBook ∷ []) ∷ [])
 
     -- ---- what it was told, its statements and its balances
 
@@ -197,16 +217,25 @@ module _ (form : Meaning) (keeps : Keeps form) (f : MonthFigures) (m : Memory) (
     worked_so i agent = statements_step form keeps o (is_opened f m opens) standing standing_sound kept.memory kept_holds.memory i agent
 
     -- and so is its balance
-    balance_so : (i : ℕ) → i < count_in o → balance_at statements i ≡ balance_of form o standing i
+    balance_so : (i : ℕ) → i < count_in o → balance_at statements i ≡ agent_balance form o standing i
     balance_so i agent =
         ap (λ (st : Statement). st.balance) (get_or-map-range_with_len (λ k. statement_in (hours_of f.days) k kept.memory) 0 f.agents i i no_statement (omega (arith, agents_long f m opens)) (omega arith))
         ∙ ap (λ w. w.balance) (worked_so i agent)
 
-    -- which is small
-    pub kept_small : (i : ℕ) → i < f.agents → nat_abs (balance_at statements i) ≤ 30000000000000000
-    kept_small i within =
-        let agent : i < count_in o = omega (arith, agents_long f m opens) in
-        omega (arith, ap nat_abs (balance_so i agent), balance_abs form keeps o (is_opened f m opens) standing standing_sound i agent)
+    -- as many as agents
+    statements_long : length statements ≡ count_in o
+    statements_long = length-map-range_with_len _ 0 f.agents ∙ sym (agents_long f m opens)
+
+    -- all balances together are those worked from what stands, and fit 64 bits
+    together_so : together statements ≡ balances_after form o standing
+    together_so =
+        (λ t. int_wrap w64 (sum_to_ℤ (statements_long t) (balance_at statements)))
+        ∙ ap (int_wrap w64) (sum_to_ℤ_same (count_in o) _ _ balance_so)
+        ∙ int_wrap_fits w64 _ (fits_abs _ (omega (
+          arith,
+          (is_opened f m opens).few_agents,
+          sum_to_ℤ_abs (count_in o) (agent_balance form o standing) most_balance (balance_abs form keeps o (is_opened f m opens) standing standing_sound),
+        )))
 
     -- all statements
     statements_so : map worked_in statements ≡ map (worked form o standing) (range_with_len 0 (count_in o))
@@ -220,7 +249,7 @@ module _ (form : Meaning) (keeps : Keeps form) (f : MonthFigures) (m : Memory) (
     book = record {
       told = told_by contracts requests (map reply_of (answers_to contracts form f requests start));
       statements = map worked_in statements;
-      balances = sum_to_ℤ f.agents (balance_at statements);
+      balances = together statements;
     }
 
     -- was run as the rules say
@@ -228,5 +257,5 @@ module _ (form : Meaning) (keeps : Keeps form) (f : MonthFigures) (m : Memory) (
     kept_ran = record {
       answers = kept_told;
       stands = statements_so;
-      together = ap (λ n. sum_to_ℤ n (balance_at statements)) (sym (agents_long f m opens)) ∙ sum_to_ℤ_same (count_in o) _ _ balance_so;
+      together = together_so;
     }

@@ -3,7 +3,7 @@ use Rattle.std.proofs.Common.{◌≡◌, ℕ, ◌*◌, ◌<◌, cond, eqb, List,
 use Rattle.std.proofs.lemmas.Nat.{div-mul-add, mod-mul-add, mul-add-lt}
 use Rattle.std.proofs.lemmas.List.FromFn.{length-map-range_with_len, get_or-map-range_with_len}
 use Rattle.settlement.specs.Holdings.{Holding, no_holding, holding_joined, holding_undone}
-use Rattle.book.specs.Calls.{entry_place, entries_with, accounts_with}
+use Rattle.book.specs.Rewriting.{entry_place, entries_with, accounts_with}
 
 module _ (hours hour : ℕ) (new : ℕ → Holding) (entries : List Holding) where
   -- as many entries
@@ -24,7 +24,7 @@ module _ (hours hour : ℕ) (new : ℕ → Holding) (entries : List Holding) whe
     length-accounts_with = length-map-range_with_len _ 0 (length accounts)
 
     -- an account loses the old entry and gains the new
-    pub account_with : (i : ℕ) → i < length accounts →
+    pub account_with_lem : (i : ℕ) → i < length accounts →
         get_or (accounts_with hours hour new entries accounts) i no_holding ≡
         holding_joined (holding_joined (get_or accounts i no_holding) (holding_undone (get_or entries (entry_place hours i hour) no_holding))) (new i)
-    account_with i agent = get_or-map-range_with_len _ 0 (length accounts) i i no_holding agent (omega arith)
+    account_with_lem i agent = get_or-map-range_with_len _ 0 (length accounts) i i no_holding agent (omega arith)

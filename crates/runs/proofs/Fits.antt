@@ -1,5 +1,5 @@
 -- Memory that holds what stands has its size and keeps every limit. Assumes nothing.
-use Rattle.std.proofs.Common.{◌≡◌, ℕ, ◌/◌, ◌%◌, ◌^◌, ◌<◌, ◌≤◌, Bool, true, not, ◌&&◌, leb, List, ◌∷◌, length, get_or, Some, None, Option, sym, refl, ap, ◌∙◌, arith}
+use Rattle.std.proofs.Common.{◌≡◌, ℕ, ◌/◌, ◌%◌, ◌^◌, ◌<◌, ◌≤◌, Bool, true, not, ◌&&◌, leb, List, [], ◌∷◌, length, get_or, Some, None, Option, sym, refl, ap, ◌∙◌, arith}
 use Rattle.std.specs.List.{list_all}
 use native.Mathlib.Nat.{mod-le}
 use Rattle.std.proofs.lemmas.Nat.{div-add-mod', div_below, mod_below}
@@ -12,15 +12,20 @@ use Rattle.settlement.specs.declared.faults.BookFault.TheVariants.{WrongSize, St
 use Rattle.settlement.specs.Agents.{agent_fits}
 use Rattle.settlement.specs.ContractFaults.{place_fits}
 use Rattle.settlement.specs.Faults.{met_if, first_met}
-use Rattle.settlement.specs.Holdings.{no_holding, withdrawn_on}
-use Rattle.settlement.specs.Sums.{sum_to}
-use Rattle.settlement.proofs.Sums.{sum_to_same, sum_by_list}
-use Rattle.book.specs.Memory.{Memory, sized, mark_fits, energy_within, all_withdrawn, stored_fits, size_fault, stored_fault}
-use Rattle.standing.specs.Requests.{Opening, count_in, hours_in, Posting}
-use Rattle.standing.specs.Standing.{Standing, withdrawn_of}
+use Rattle.settlement.specs.Holdings.{no_holding, withdrawn_on, all_withdrawn}
+use Rattle.settlement.specs.Limits.{most_month_energy}
+use Rattle.settlement.specs.Posting.{Posting}
+use Rattle.tally.specs.Sums.{sum_to}
+use Rattle.tally.proofs.Numbers.{sum_to_same, sum_by_list}
+use Rattle.valuation.specs.Limits.{most_energy}
+use Rattle.book.specs.Memory.{Memory, sized, mark_fits, energy_within, stored_fits, size_fault, memory_fault}
+use Rattle.book.specs.Months.{setting_with}
+use Rattle.standing.specs.Faults.{withdrawn_of}
+use Rattle.standing.specs.Requests.{Opening, count_in, hours_in}
+use Rattle.standing.specs.Standing.{Standing}
 use Rattle.standing.proofs.Bounds.{injected_le, withdrawn_le, injected_of_le, withdrawn_of_le, all_withdrawn_le}
 use Rattle.standing.proofs.Sound.{Opened, Sound}
-use Rattle.runs.proofs.Holds.{Held, mark_for}
+use Rattle.runs.proofs.Holds.{figures_of_opening, Held, mark_for}
 use Rattle.runs.proofs.Keeps.{withdrawn_read}
 
 -- a test that each place of a list passes, all of it passes
@@ -39,7 +44,7 @@ energy_fits most a b p q =
 
 module _ (form : Meaning) (keeps : Keeps form) (o : Opening) (opened : Opened o) (s : Standing) (sound : Sound form o s) (m : Memory) (held : Held form o s m) where
   -- it has its size
-  is_sized : sized (count_in o) (hours_in o) m ≡ true
+  is_sized : sized (figures_of_opening o) m ≡ true
   is_sized =
       and_from _ _ (eq-eqb _ _ (ap length held.agents))
       (and_from _ _ (eq-eqb _ _ held.accounts_long)
@@ -51,26 +56,26 @@ module _ (form : Meaning) (keeps : Keeps form) (o : Opening) (opened : Opened o)
   marks_fit = each_passes mark_fits m.marks 0 (λ k l. ap mark_fits (held.marks k (omega arith)) ∙ mark_fits_lem (s.posted k))
 
   -- each entry is that of an agent and an hour
-  entries_fit : list_all (energy_within 4000000) m.entries ≡ true
+  entries_fit : list_all (energy_within most_energy) m.entries ≡ true
   entries_fit =
-      each_passes (energy_within 4000000) m.entries no_holding
+      each_passes (energy_within most_energy) m.entries no_holding
       (λ k l.
       let some_hours : 0 < hours_in o = omega arith in
       let i : ℕ = k / hours_in o in
       let hour : ℕ = k % hours_in o in
       let agent : i < count_in o = div_below k (hours_in o) (count_in o) some_hours (omega arith) in
       let within : hour < hours_in o = mod_below k (hours_in o) some_hours in
-      ap (energy_within 4000000) (ap (λ n. get_or m.entries n no_holding) (sym (div-add-mod' k (hours_in o))) ∙ held.entries i hour agent within)
-      ∙ energy_fits 4000000 _ _ (injected_le form keeps o opened s sound i hour agent within) (withdrawn_le form keeps o opened s sound i hour agent within))
+      ap (energy_within most_energy) (ap (λ n. get_or m.entries n no_holding) (sym (div-add-mod' k (hours_in o))) ∙ held.entries i hour agent within)
+      ∙ energy_fits most_energy _ _ (injected_le form keeps o opened s sound i hour agent within) (withdrawn_le form keeps o opened s sound i hour agent within))
 
   -- each account is that of an agent
-  accounts_fit : list_all (energy_within 2976000000) m.accounts ≡ true
+  accounts_fit : list_all (energy_within most_month_energy) m.accounts ≡ true
   accounts_fit =
-      each_passes (energy_within 2976000000) m.accounts no_holding
+      each_passes (energy_within most_month_energy) m.accounts no_holding
       (λ i l.
       let agent : i < count_in o = omega arith in
-      ap (energy_within 2976000000) (held.accounts i agent)
-      ∙ energy_fits 2976000000 _ _ (injected_of_le form keeps o opened s sound i agent) (withdrawn_of_le form keeps o opened s sound i agent))
+      ap (energy_within most_month_energy) (held.accounts i agent)
+      ∙ energy_fits most_month_energy _ _ (injected_of_le form keeps o opened s sound i agent) (withdrawn_of_le form keeps o opened s sound i agent))
 
   -- what all accounts say was withdrawn is what was
   all_withdrawn_lem : all_withdrawn m.accounts ≡ sum_to (count_in o) (withdrawn_of o s)
@@ -80,26 +85,26 @@ module _ (form : Meaning) (keeps : Keeps form) (o : Opening) (opened : Opened o)
       ∙ sum_to_same (count_in o) (withdrawn_on m.accounts) (withdrawn_of o s) (withdrawn_read form keeps o opened s sound m held)
 
   -- every stored figure is within its limit
-  is_stored : stored_fits form (hours_in o) m ≡ true
+  is_stored : stored_fits form (figures_of_opening o) m ≡ true
   is_stored =
       and_from _ _ (ap (list_all agent_fits) held.agents ∙ opened.agents)
-      (and_from _ _ ((λ t. list_all (place_fits form (hours_in o) (held.agents t)) (held.contracts t)) ∙ sound.contracts)
+      (and_from _ _ ((λ t. list_all (place_fits (setting_with form (figures_of_opening o) (held.agents t) (held.contracts t))) (held.contracts t)) ∙ sound.contracts)
       (and_from _ _ marks_fit
       (and_from _ _ entries_fit
-      (and_from _ _ accounts_fit (le-leb (all_withdrawn m.accounts) 2976000000 (omega (arith, all_withdrawn_lem, all_withdrawn_le form keeps o opened s sound)))))))
+      (and_from _ _ accounts_fit (le-leb (all_withdrawn m.accounts) most_month_energy (omega (arith, all_withdrawn_lem, all_withdrawn_le form keeps o opened s sound)))))))
 
   -- both
-  pub held_fits : (sized (count_in o) (hours_in o) m ≡ true) × (stored_fits form (hours_in o) m ≡ true)
+  pub held_fits : (sized (figures_of_opening o) m ≡ true) × (stored_fits form (figures_of_opening o) m ≡ true)
   held_fits = (is_sized, is_stored)
 
   -- so memory is never met with the wrong size
-  pub no_size_fault : size_fault (count_in o) (hours_in o) m ≡ None
+  pub no_size_fault : size_fault (figures_of_opening o) m ≡ None
   no_size_fault = ap (λ fits. met_if (not fits) WrongSize) is_sized
 
   -- nor with a figure outside its limit
-  pub no_stored_fault : stored_fault form (hours_in o) m ≡ None
-  no_stored_fault = ap (λ fits. met_if (not fits) StoredOutside) is_stored
+  pub no_memory_fault : memory_fault form (figures_of_opening o) m ≡ None
+  no_memory_fault = λ t. first_met (no_size_fault t ∷ met_if (not (is_stored t)) StoredOutside ∷ [])
 
-  -- and the faults after those two decide
-  pub past_memory : (rows : List (Option BookFault)) → first_met (size_fault (count_in o) (hours_in o) m ∷ stored_fault form (hours_in o) m ∷ rows) ≡ first_met rows
-  past_memory rows = λ t. first_met (no_size_fault t ∷ no_stored_fault t ∷ rows)
+  -- and the faults after those decide
+  pub past_memory : (rows : List (Option BookFault)) → first_met (memory_fault form (figures_of_opening o) m ∷ rows) ≡ first_met rows
+  past_memory rows = λ t. first_met (no_memory_fault t ∷ rows)

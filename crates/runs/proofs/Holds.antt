@@ -1,31 +1,32 @@
 -- How a book as it is kept holds what stands. Assumes nothing.
-use Rattle.std.proofs.Common.{◌≡◌, ℕ, ◌*◌, ◌<◌, cond, length, get_or, is_some, Option}
+use Rattle.std.proofs.Common.{◌≡◌, ℕ, ◌*◌, ◌<◌, if◌then◌else◌, length, get_or, is_some, Option}
 use Rattle.tally.specs.Money.{money_of}
 use Rattle.tally.specs.Energy.{energy_of}
 use Rattle.tally.specs.Pair.{pair_of}
 use Rattle.forms.specs.Meaning.{Meaning}
 use Rattle.settlement.specs.Holdings.{Holding, no_holding, entry_of}
+use Rattle.settlement.specs.Posting.{Posting}
 use Rattle.book.specs.declared.months.MonthFigures.{MonthFigures}
-use Rattle.book.specs.Calls.{entry_place}
+use Rattle.book.specs.Rewriting.{entry_place}
 use Rattle.book.specs.Memory.{Memory}
 use Rattle.book.specs.Months.{month_figures}
-use Rattle.standing.specs.Requests.{Opening, count_in, hours_in, Posting}
-use Rattle.standing.specs.Standing.{Standing, withdrawn_of}
-use Rattle.standing.specs.Worked.{figures_at, market_of, contract_of, overcost_of, power_of, injected_of}
+use Rattle.standing.specs.Requests.{Opening, count_in, hours_in}
+use Rattle.standing.specs.Faults.{withdrawn_of}
+use Rattle.standing.specs.Standing.{Standing}
+use Rattle.standing.specs.Worked.{figures_at, agent_lines, injected_of}
 use Rattle.runs.specs.Runs.{Kept}
 
 -- the figures of the month that an opening opens
 abbrev pub figures_of_opening : Opening → MonthFigures
-figures_of_opening o = month_figures (count_in o) o.days o.weekday
+figures_of_opening o = month_figures (count_in o) o.days o.calendar
 
 -- the mark of an hour: 1 where a posting stands
 abbrev pub mark_for : Option Posting → ℕ
-mark_for p = cond (is_some p) 1 0
+mark_for p = if is_some p then 1 else 0
 
 -- an account: the exact whole numbers, each kept to its width
 abbrev pub account_of : Meaning → Opening → Standing → ℕ → Holding
-account_of form o s i =
-    pair_of (money_of (market_of form o s i) (contract_of form o s i) (overcost_of form o s i) (power_of o s i)) (energy_of (injected_of o s i) (withdrawn_of o s i))
+account_of form o s i = pair_of (money_of (agent_lines form o s i)) (energy_of (injected_of o s i) (withdrawn_of o s i))
 
 -- memory holds what stands: the contract places are those that stand, marks tell posted hours, each entry is that of its hour's figures, and
 -- each account that of the month's sums

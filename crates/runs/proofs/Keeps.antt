@@ -4,32 +4,48 @@ use Rattle.std.proofs.lemmas.Nat.{mul-add-lt}
 use Rattle.std.proofs.lemmas.List.FromFn.{length-map-range_with_len, get_or-map-range_with_len}
 use Rattle.std.proofs.lemmas.List.{length-replicate, get_or-replicate, length-set, get_or-set_same, get_or-set_other}
 use Rattle.std.proofs.lemmas.Bool.{cases_eq, cond-true, cond-false, cond_both, eq-eqb, ne_eqb, leb-true, eqb-true, and_parts, both_ways, not-true}
-use Rattle.tally.specs.Money.{money_of}
-use Rattle.tally.specs.Energy.{energy_of}
+use Rattle.tally.specs.declared.money.MoneyLine.TheVariants.{Power}
+use Rattle.tally.specs.Energy.{energy_of, no_energy}
+use Rattle.tally.specs.Lines.{Lines, no_lines, lines_joined, alone}
+use Rattle.tally.specs.LinesLaws.{lines_lawful}
+use Rattle.tally.specs.Money.{money_of, no_money}
 use Rattle.tally.specs.Pair.{pair_of}
+use Rattle.tally.specs.Sums.{int_sum_by}
+use Rattle.tally.proofs.Failing.{each_passed}
+use Rattle.tally.proofs.Numbers.{sum_to_const_zero, map_counting_same}
+use Rattle.tally.proofs.Sums.{total_over_same, total_over_none}
 use Rattle.valuation.specs.Sharing.{part_of}
 use Rattle.forms.specs.declared.Contract.{Contract}
+use Rattle.forms.specs.Limits.{most_contracts}
 use Rattle.forms.specs.Meaning.{Meaning, Keeps}
+use Rattle.forms.specs.Parties.{legs_by_party}
+use Rattle.forms.specs.Roles.{carries}
 use Rattle.settlement.specs.declared.agents.Agent.{Agent}
-use Rattle.settlement.specs.declared.lines.Line.{Line}
+use Rattle.settlement.specs.declared.states.State.TheVariants.{Open}
+use Rattle.settlement.specs.Agents.{agent_at, counted}
 use Rattle.settlement.specs.ContractFaults.{covers, covered_in, place_at}
-use Rattle.settlement.specs.Holdings.{Holding, no_holding, holding_joined, holding_undone, withdrawn_on, entry_of, power_points}
-use Rattle.settlement.specs.Hour.{line_at, role_at, weight_for, caused_sum, carried_by, Figures, figures_with}
-use Rattle.settlement.specs.Pool.{leg_for, legs_of, leg_in}
+use Rattle.settlement.specs.Holdings.{Holding, no_holding, holding_joined, withdrawn_on, entry_of, power_points}
+use Rattle.settlement.specs.Hour.{caused_sum, carried_by, Figures, figures_with}
+use Rattle.settlement.specs.Legs.{legs_of, given_to, given_in, is_number}
+use Rattle.settlement.specs.Posting.{Posting, line_at}
 use Rattle.settlement.specs.Power.{power_credit, power_due, power_weights}
-use Rattle.settlement.specs.Sums.{sum_to_ℤ, sum_of}
-use Rattle.settlement.proofs.Measured.{mapped_none, each_passed}
-use Rattle.settlement.proofs.Sums.{sum_to_ℤ_same, sum_to_const_zero, sum_to_ℤ_const_zero, map_counting_same}
-use Rattle.book.specs.Calls.{entry_place, rewritten, emptied, placed, charged}
+use Rattle.settlement.specs.Setting.{Setting}
+use Rattle.settlement.proofs.FaultTables.{mapped_none}
+use Rattle.book.specs.Closing.{charged}
+use Rattle.book.specs.Entering.{placed}
 use Rattle.book.specs.Memory.{Memory}
-use Rattle.standing.specs.Requests.{Opening, count_in, hours_in, Posting, closing}
-use Rattle.standing.specs.Standing.{open', Standing, nothing_stands, standing_with, placed_with, stands, withdrawn_of, changed}
-use Rattle.standing.specs.Worked.{pool_in, figures_from, figures_at, power_of, injected_of}
+use Rattle.book.specs.Opening.{emptied}
+use Rattle.book.specs.Rewriting.{entry_place, account_with, rewritten}
+use Rattle.standing.specs.Faults.{withdrawn_of}
+use Rattle.standing.specs.Requests.{Opening, count_in, hours_in, closing}
+use Rattle.standing.specs.Standing.{Standing, nothing_stands, standing_with, placed_with, stands, setting_in}
+use Rattle.standing.specs.Turns.{changed}
+use Rattle.standing.specs.Worked.{figures_from, figures_at, lines_between, power_of, injected_of}
 use Rattle.standing.proofs.Bounds.{withdrawn_of_le}
 use Rattle.standing.proofs.Sound.{Opened, Sound}
 use Rattle.runs.specs.Runs.{kept_of}
 use Rattle.runs.proofs.Accounts.{account-changed, account_charged}
-use Rattle.runs.proofs.Columns.{entry_with, length-entries_with, account_with, length-accounts_with}
+use Rattle.runs.proofs.Columns.{entry_with, length-entries_with, account_with_lem, length-accounts_with}
 use Rattle.runs.proofs.Holds.{Held, Holds, mark_for, account_of}
 
 -- a list with one place changed
@@ -46,21 +62,21 @@ picked f true y y' x x' p q = p refl
 picked f false y y' x x' p q = q
 
 -- a sum over a list with one item changed for another that gives as much
-sum_of_set : {X : Type 0} (f : X → ℤ) (xs : List X) (k : ℕ) (x d : X) → f x ≡ f (get_or xs k d) → sum_of f (set xs k x) ≡ sum_of f xs
-sum_of_set f [] k x d same = refl
-sum_of_set f (y ∷ ys) zero x d same = ap (λ z. z +ℤ sum_of f ys) same
-sum_of_set f (y ∷ ys) (suc k) x d same = ap (λ z. f y +ℤ z) (sum_of_set f ys k x d same)
+int_sum_by_same_set : {X : Type 0} (f : X → ℤ) (xs : List X) (k : ℕ) (x d : X) → f x ≡ f (get_or xs k d) → int_sum_by f (set xs k x) ≡ int_sum_by f xs
+int_sum_by_same_set f [] k x d same = refl
+int_sum_by_same_set f (y ∷ ys) zero x d same = ap (λ z. z +ℤ int_sum_by f ys) same
+int_sum_by_same_set f (y ∷ ys) (suc k) x d same = ap (λ z. f y +ℤ z) (int_sum_by_same_set f ys k x d same)
 
 -- ---- an hour written anew
 
 -- with the entries and the mark of what now stands there
-module _ (form : Meaning) (o : Opening) (s : Standing) (m : Memory) (held : Held form o s m) (is : s.state ≡ open') (hour : ℕ) (within : hour < hours_in o) (p : Option Posting) where
+module _ (form : Meaning) (o : Opening) (s : Standing) (m : Memory) (held : Held form o s m) (is : s.state ≡ Open) (hour : ℕ) (within : hour < hours_in o) (p : Option Posting) where
   -- at this hour what is written
   here : (standing_with hour p s).posted hour ≡ p
   here = cond-true (eqb hour hour) p _ (eq-eqb hour hour refl)
 
   -- memory holds what now stands
-  pub held_rewritten : (mark : ℕ) (new : ℕ → Holding) → mark ≡ mark_for p → ((i : ℕ) → i < count_in o → new i ≡ entry_of (figures_from (pool_in form o s) i hour p)) →
+  pub held_rewritten : (mark : ℕ) (new : ℕ → Holding) → mark ≡ mark_for p → ((i : ℕ) → i < count_in o → new i ≡ entry_of (figures_from (setting_in form o s) i p)) →
       Held form o (standing_with hour p s) (rewritten (hours_in o) hour mark new m)
   held_rewritten mark new marked written = record {
     agents = held.agents;
@@ -71,19 +87,18 @@ module _ (form : Meaning) (o : Opening) (s : Standing) (m : Memory) (held : Held
     marks = λ h l. get_or-set m.marks hour h mark 0 (omega (arith, held.marks_long)) ∙ picked mark_for (eqb h hour) _ _ _ _ (λ at. marked) (held.marks h l);
     entries = λ i h agent l.
         entry_with (hours_in o) hour new m.entries (count_in o) i h held.entries_long agent l
-        ∙ picked (λ q. entry_of (figures_from (pool_in form o s) i h q)) (eqb h hour) _ _ _ _
-        (λ at. written i agent ∙ ap (λ k. entry_of (figures_from (pool_in form o s) i k p)) (sym (eqb-true h hour at))) (held.entries i h agent l);
+        ∙ picked (λ q. entry_of (figures_from (setting_in form o s) i q)) (eqb h hour) _ _ _ _ (λ at. written i agent) (held.entries i h agent l);
     accounts = λ i agent.
-        account_with (hours_in o) hour new m.entries m.accounts i (omega (arith, held.accounts_long))
-        ∙ (λ t. holding_joined (holding_joined (held.accounts i agent t) (holding_undone (held.entries i hour agent within t)))
-        ((written i agent ∙ ap (λ q. entry_of (figures_from (pool_in form o s) i hour q)) (sym here)) t))
+        account_with_lem (hours_in o) hour new m.entries m.accounts i (omega (arith, held.accounts_long))
+        ∙ (λ t. account_with (held.accounts i agent t) (held.entries i hour agent within t)
+        ((written i agent ∙ ap (λ q. entry_of (figures_from (setting_in form o s) i q)) (sym here)) t))
         ∙ account-changed form o s is hour within p i;
   }
 
 -- ---- nothing stands
 
 -- memory emptied holds an opening, at which nothing stands
-pub held_emptied : (form : Meaning) (o : Opening) (m : Memory) → m.agents ≡ o.agents → length m.accounts ≡ count_in o → length m.contracts ≡ 64 →
+pub held_emptied : (form : Meaning) (o : Opening) (m : Memory) → m.agents ≡ o.agents → length m.accounts ≡ count_in o → length m.contracts ≡ most_contracts →
     length m.marks ≡ hours_in o → length m.entries ≡ count_in o * hours_in o → Held form o nothing_stands (emptied m)
 held_emptied form o m agents accounts contracts marks entries = record {
   agents = agents;
@@ -96,55 +111,55 @@ held_emptied form o m agents accounts contracts marks entries = record {
       get_or-replicate (length m.entries) (entry_place (hours_in o) i hour) no_holding no_holding (omega (arith, mul-add-lt i (hours_in o) hour (count_in o) agent within));
   accounts = λ i agent.
       get_or-replicate (length m.accounts) i no_holding no_holding (omega arith)
-      ∙ (λ t. let line = sum_to_ℤ_const_zero (hours_in o) in let energy = sum_to_const_zero (hours_in o) in
-      pair_of (money_of (sym line t) (sym line t) (sym line t) (pos 0)) (energy_of (sym energy t) (sym energy t)));
+      ∙ (λ t. pair_of (money_of (lines_joined (sym (total_over_none lines_lawful 0 (hours_in o) (λ hour. no_lines) (λ k low below. refl)) t) no_lines))
+      (energy_of (sym (sum_to_const_zero (hours_in o)) t) (sym (sum_to_const_zero (hours_in o)) t)));
 }
 
 -- so does a book then
-pub holds_emptied : (form : Meaning) (o : Opening) (m : Memory) → m.agents ≡ o.agents → length m.accounts ≡ count_in o → length m.contracts ≡ 64 →
-    length m.marks ≡ hours_in o → length m.entries ≡ count_in o * hours_in o → Holds form o nothing_stands (kept_of open' (emptied m))
+pub holds_emptied : (form : Meaning) (o : Opening) (m : Memory) → m.agents ≡ o.agents → length m.accounts ≡ count_in o → length m.contracts ≡ most_contracts →
+    length m.marks ≡ hours_in o → length m.entries ≡ count_in o * hours_in o → Holds form o nothing_stands (kept_of Open (emptied m))
 holds_emptied form o m agents accounts contracts marks entries = record { state = refl; memory = held_emptied form o m agents accounts contracts marks entries }
 
 -- ---- a contract place changed
 
--- a contract that covers no standing hour puts nothing on a contract line where a posting stands
-uncovered : (tells : ℕ → Bool) (place : Option Contract) → covered_in tells place ≡ None → (hour : ℕ) → tells hour ≡ true →
-    (form : Meaning) (weekday price : ℕ) (agents : List Agent) (lines : List Line) (i : ℕ) → leg_in form weekday agents hour price lines i place ≡ pos 0
-uncovered tells None none hour stood form weekday price agents lines i = refl
-uncovered tells (Some c) none hour stood form weekday price agents lines i =
-    cond_both (covers c hour) (leg_for c (legs_of form weekday agents hour price lines c) i) (pos 0) (λ z. z ≡ pos 0)
+-- a contract that covers no standing hour gives nothing where a posting stands
+uncovered : (tells : ℕ → Bool) (place : Option Contract) → covered_in tells place ≡ None → (member : ℕ → Bool) (setting : Setting) (p : Posting) → tells p.hour ≡ true →
+    given_in member setting p place ≡ pos 0
+uncovered tells None none member setting p stood = refl
+uncovered tells (Some c) none member setting p stood =
+    cond_both (covers c p.hour) (given_to member (legs_by_party c (legs_of setting p c))) (pos 0) (λ z. z ≡ pos 0)
     (λ covered.
-    let parts = and_parts (leb c.first hour) (leb hour c.last) covered in
-    let from : c.first ≤ hour = leb-true c.first hour parts.0 in
-    let to : hour ≤ c.last = leb-true hour c.last parts.1 in
-    let free : not (tells (c.first + (hour - c.first))) ≡ true =
-    each_passed (λ h. not (tells h)) c.first (c.last + 1 - c.first) (mapped_none _ _ (sym none)) (hour - c.first) (omega arith) in
-    let place : c.first + (hour - c.first) ≡ hour = omega arith in
-    absurd (both_ways (tells hour) (not-true (tells hour) (sym (ap (λ h. not (tells h)) place) ∙ free)) stood))
+    let parts = and_parts (leb c.first p.hour) (leb p.hour c.last) covered in
+    let from : c.first ≤ p.hour = leb-true c.first p.hour parts.0 in
+    let to : p.hour ≤ c.last = leb-true p.hour c.last parts.1 in
+    let free : not (tells (c.first + (p.hour - c.first))) ≡ true =
+    each_passed (λ h. not (tells h)) c.first (c.last + 1 - c.first) (mapped_none _ _ (sym none)) (p.hour - c.first) (omega arith) in
+    let place : c.first + (p.hour - c.first) ≡ p.hour = omega arith in
+    absurd (both_ways (tells p.hour) (not-true (tells p.hour) (sym (ap (λ h. not (tells h)) place) ∙ free)) stood))
     (λ apart. refl)
 
 -- neither what stood in the place nor what is put there covers an hour that stands
-module _ (form : Meaning) (o : Opening) (s : Standing) (number : ℕ) (c : Option Contract) (old : covered_in (stands s) (place_at s.places number) ≡ None) (new : covered_in (stands s) c ≡ None) where
+module _ (form : Meaning) (o : Opening) (s : Standing) (sound : Sound form o s) (number : ℕ) (c : Option Contract) (old : covered_in (stands s) (place_at s.places number) ≡ None) (new : covered_in (stands s) c ≡ None) where
   -- then every hour has the figures that it had
-  figures_placed : (i hour : ℕ) → figures_at form o (placed_with number c s) i hour ≡ figures_at form o s i hour
-  figures_placed i hour = by (s.posted hour) refl
+  figures_placed : (i hour : ℕ) → hour < hours_in o → figures_at form o (placed_with number c s) i hour ≡ figures_at form o s i hour
+  figures_placed i hour within = by (s.posted hour) refl
     where
-      by : (q : Option Posting) → s.posted hour ≡ q → figures_from (pool_in form o (placed_with number c s)) i hour q ≡ figures_from (pool_in form o s) i hour q
+      by : (q : Option Posting) → s.posted hour ≡ q → figures_from (setting_in form o (placed_with number c s)) i q ≡ figures_from (setting_in form o s) i q
       by None stood = refl
       by (Some p) stood =
-          let leg : Option Contract → ℤ = leg_in form o.weekday o.agents hour p.price p.lines i in
-          let nothing : (place : Option Contract) → covered_in (stands s) place ≡ None → leg place ≡ pos 0 =
-          λ place none. uncovered (stands s) place none hour (ap is_some stood) form o.weekday p.price o.agents p.lines i in
-          ap (λ line. figures_with p.price (line_at p.lines i) line (caused_sum p.price p.lines i) (carried_by o.agents p.price p.lines i))
-          (sum_of_set leg s.places (number - 1) c None (nothing c new ∙ sym (nothing (place_at s.places number) old)))
+          let given : Option Contract → ℤ = given_in (is_number i) (setting_in form o s) p in
+          let tells : stands s p.hour ≡ true = ap (stands s) (sound.postings hour p within stood).at ∙ ap is_some stood in
+          let nothing : (place : Option Contract) → covered_in (stands s) place ≡ None → given place ≡ pos 0 =
+          λ place none. uncovered (stands s) place none (is_number i) (setting_in form o s) p tells in
+          ap (λ line. figures_with p.price (line_at p.lines i) line (caused_sum p i) (carried_by o.agents p i))
+          (int_sum_by_same_set given s.places (number - 1) c None (nothing c new ∙ sym (nothing (place_at s.places number) old)))
 
   -- and every agent the account
   account_placed : (i : ℕ) → account_of form o s i ≡ account_of form o (placed_with number c s) i
   account_placed i =
-      let same : (of : Figures → ℤ) →
-      sum_to_ℤ (hours_in o) (λ hour. of (figures_at form o s i hour)) ≡ sum_to_ℤ (hours_in o) (λ hour. of (figures_at form o (placed_with number c s) i hour)) =
-      λ of. sum_to_ℤ_same (hours_in o) _ _ (λ hour within. ap of (sym (figures_placed i hour))) in
-      λ t. pair_of (money_of (same (λ f. f.market) t) (same (λ f. f.contract) t) (same (λ f. f.overcost) t) (power_of o s i)) (energy_of (injected_of o s i) (withdrawn_of o s i))
+      ap (λ hours. pair_of (money_of (lines_joined hours (alone Power (power_of o s i)))) (energy_of (injected_of o s i) (withdrawn_of o s i)))
+      (total_over_same lines_lawful 0 (hours_in o) (λ hour. (figures_at form o s i hour).lines) (λ hour. (figures_at form o (placed_with number c s) i hour).lines)
+      (λ hour low below. ap (λ (f : Figures). f.lines) (sym (figures_placed i hour (omega arith)))))
 
   -- so memory holds what now stands
   pub held_placed : (m : Memory) → Held form o s m → Held form o (placed_with number c s) (placed number c m)
@@ -155,7 +170,7 @@ module _ (form : Meaning) (o : Opening) (s : Standing) (number : ℕ) (c : Optio
     entries_long = held.entries_long;
     contracts = ap (λ places. set places (number - 1) c) held.contracts;
     marks = held.marks;
-    entries = λ i hour agent within. held.entries i hour agent within ∙ sym (ap entry_of (figures_placed i hour));
+    entries = λ i hour agent within. held.entries i hour agent within ∙ sym (ap entry_of (figures_placed i hour within));
     accounts = λ i agent. held.accounts i agent ∙ account_placed i;
   }
 
@@ -163,8 +178,7 @@ module _ (form : Meaning) (o : Opening) (s : Standing) (number : ℕ) (c : Optio
 
 -- the weights of power look at the agents of the book alone
 pub weights_same : (agents : List Agent) (f g : ℕ → ℕ) → ((i : ℕ) → i < length agents → f i ≡ g i) → power_weights agents f ≡ power_weights agents g
-weights_same agents f g same =
-    map_counting_same (length agents) (λ i. weight_for (role_at agents i) (f i)) (λ i. weight_for (role_at agents i) (g i)) (λ i below. ap (weight_for (role_at agents i)) (same i below))
+weights_same agents f g same = map_counting_same (length agents) _ _ (λ i below. ap (counted carries (agent_at agents i).role) (same i below))
 
 module _ (form : Meaning) (keeps : Keeps form) (o : Opening) (opened : Opened o) (s : Standing) (sound : Sound form o s) (m : Memory) (held : Held form o s m) where
   -- what an account says was withdrawn is what was
@@ -178,7 +192,7 @@ module _ (form : Meaning) (keeps : Keeps form) (o : Opening) (opened : Opened o)
       ∙ weights_same o.agents (withdrawn_on m.accounts) (withdrawn_of o s) withdrawn_read
 
   -- an open month's memory with power charged holds the month closed
-  pub held_charged : s.state ≡ open' → Held form o (changed closing s) (charged m)
+  pub held_charged : s.state ≡ Open → Held form o (changed closing s) (charged m)
   held_charged is = record {
     agents = held.agents;
     accounts_long = length-map-range_with_len _ 0 (length m.accounts) ∙ held.accounts_long;

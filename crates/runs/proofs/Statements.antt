@@ -1,18 +1,23 @@
 -- The statement that memory gives is the one worked from what stands: nothing wraps. Assumes nothing.
-use Rattle.std.proofs.Common.{◌≡◌, ℕ, ◌<◌, get_or, ◌+ℤ◌, ap, ◌∙◌, mod-eq_of_lt, arith, w64}
+use Rattle.std.proofs.Common.{◌≡◌, ℕ, ◌<◌, get_or, ap, ◌∙◌, mod-eq_of_lt, arith, w64}
 use Rattle.std.specs.Int.{int_wrap}
 use Rattle.std.proofs.lemmas.Int.{int_wrap_fits}
+use Rattle.tally.specs.Lines.{balance_of}
+use Rattle.tally.specs.Money.{lines_of}
 use Rattle.tally.specs.Peak.{no_peak, peak_of, peak_joined}
 use Rattle.tally.specs.Total.{total}
+use Rattle.tally.proofs.Lines.{lines_fit, lines_of_money}
+use Rattle.tally.proofs.Numbers.{map_counting_same}
 use Rattle.forms.specs.Meaning.{Meaning, Keeps}
 use Rattle.settlement.specs.Holdings.{no_holding}
-use Rattle.settlement.proofs.Sums.{map_counting_same}
-use Rattle.book.specs.Calls.{entry_place, peak_over, statement_in}
 use Rattle.book.specs.Memory.{Memory}
+use Rattle.book.specs.Rewriting.{entry_place}
+use Rattle.book.specs.Statements.{peak_over, statement_in}
+use Rattle.standing.specs.Limits.{most_line_of_a_month}
 use Rattle.standing.specs.Requests.{Opening, count_in, hours_in}
-use Rattle.standing.specs.Standing.{Standing}
-use Rattle.standing.specs.Worked.{pool_in, worked, peak_for}
-use Rattle.standing.proofs.Bounds.{figures_withdrawn, withdrawn_le, injected_of_le, market_fits, contract_fits_lem, overcost_fits, power_fits, balance_fits}
+use Rattle.standing.specs.Standing.{Standing, setting_in}
+use Rattle.standing.specs.Worked.{agent_lines, worked, peak_for}
+use Rattle.standing.proofs.Bounds.{figures_withdrawn, withdrawn_le, injected_of_le, lines_within, balance_fits}
 use Rattle.standing.proofs.Sound.{Opened, Sound}
 use Rattle.runs.specs.Reading.{worked_in}
 use Rattle.runs.proofs.Holds.{Held}
@@ -28,23 +33,19 @@ module _ (form : Meaning) (keeps : Keeps form) (o : Opening) (opened : Opened o)
       ap (λ kwh. peak_of kwh hour)
       (ap (λ entry. entry.second.withdrawn) (held.entries i hour agent within)
       ∙ mod-eq_of_lt (omega (arith, withdrawn_le form keeps o opened s sound i hour agent within))
-      ∙ figures_withdrawn (pool_in form o s) i hour (s.posted hour))))
+      ∙ figures_withdrawn (setting_in form o s) i (s.posted hour))))
 
   -- the statement, number by number
   pub statements_step : worked_in (statement_in (hours_in o) i m) ≡ worked form o s i
   statements_step =
       let account = held.accounts i agent in
-      let market = ap (λ a. a.first.market) account ∙ int_wrap_fits w64 _ (market_fits form keeps o opened s sound i agent) in
-      let contract = ap (λ a. a.first.contract) account ∙ int_wrap_fits w64 _ (contract_fits_lem form keeps o opened s sound i agent) in
-      let overcost = ap (λ a. a.first.overcost) account ∙ int_wrap_fits w64 _ (overcost_fits form keeps o opened s sound i agent) in
-      let power = ap (λ a. a.first.power) account ∙ int_wrap_fits w64 _ (power_fits form keeps o opened s sound i agent) in
-      let balance = (λ t. int_wrap w64 (market t +ℤ contract t +ℤ overcost t +ℤ power t)) ∙ int_wrap_fits w64 _ (balance_fits form keeps o opened s sound i agent) in
+      let lines : lines_of (get_or m.accounts i no_holding).first ≡ agent_lines form o s i =
+      ap (λ a. lines_of a.first) account
+      ∙ lines_of_money (agent_lines form o s i) (lines_fit most_line_of_a_month (agent_lines form o s i) (lines_within form keeps o opened s sound i agent) (omega arith)) in
+      let balance = ap (λ l. int_wrap w64 (balance_of l)) lines ∙ int_wrap_fits w64 _ (balance_fits form keeps o opened s sound i agent) in
       let injected = ap (λ a. a.second.injected) account ∙ mod-eq_of_lt (omega (arith, injected_of_le form keeps o opened s sound i agent)) in
       λ t. record {
-        market = market t;
-        contract = contract t;
-        overcost = overcost t;
-        power = power t;
+        lines = lines t;
         balance = balance t;
         injected = injected t;
         withdrawn = withdrawn_read form keeps o opened s sound m held i agent t;

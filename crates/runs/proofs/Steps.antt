@@ -1,35 +1,45 @@
 -- Each request on a book that holds what stands: the answer is the one worked from what stands, and the book holds what stands then. Assumes nothing.
-use Rattle.std.proofs.Common.{◌≡◌, ℕ, ◌+◌, ◌-◌, ◌<◌, ◌≤◌, true, false, cond, not, ◌&&◌, ◌||◌, eqb, ltb, List, [], ◌∷◌, length, is_some, Some, None, Ok, Err, sum, Option, Result, sym, refl, ap, ◌∙◌, subst, ⊎_elim, arith}
+use Rattle.std.proofs.Common.{◌≡◌, if◌then◌else◌, ℕ, ◌+◌, ◌-◌, ◌<◌, ◌≤◌, Bool, true, false, not, ◌&&◌, ◌||◌, eqb, ltb, leb, List, [], ◌∷◌, length, is_some, is_none, Some, None, Ok, Err, sum, Option, Result, sym, refl, ap, ◌∙◌, subst, ⊎_elim, arith}
 use Rattle.std.specs.Option.{option_map}
 use Rattle.std.proofs.lemmas.List.{get_or_past}
-use Rattle.std.proofs.lemmas.Bool.{cases_lt, le-leb, leb-false, eqb-false, ltb-false, or_parts, not-false}
+use Rattle.std.proofs.lemmas.Bool.{false≢true, cases_lt, le-leb, leb-false, ltb-true, eqb-false, ltb-false, or_parts, and_parts, not-false}
+use Rattle.tally.specs.Failing.{first_failing}
+use Rattle.tally.proofs.Failing.{all_each, first_failing_same}
 use Rattle.packets.specs.declared.faults.ByteFault.{ByteFault}
 use Rattle.forms.specs.declared.Contract.{Contract}
 use Rattle.forms.specs.Meaning.{Meaning, Keeps}
 use Rattle.settlement.specs.declared.faults.BookFault.{BookFault}
-use Rattle.settlement.specs.declared.faults.BookFault.TheVariants.{OutsideBook, NoCarrier, FreeHour, MissingHour, NoPowerCarrier, CoveredHour}
-use Rattle.settlement.specs.ContractFaults.{place_fits, taken_fault, vacant_fault, terms_fault, covered_fault, covered_in, place_at, number_known}
+use Rattle.settlement.specs.declared.faults.BookFault.TheVariants.{OutsideBook, FreeHour, MissingHour, NoPowerCarrier, CoveredHour}
+use Rattle.settlement.specs.declared.states.State.{State}
+use Rattle.settlement.specs.declared.states.State.TheVariants.{Open, Closed}
+use Rattle.settlement.specs.ContractFaults.{place_fits, contract_fits, contract_fault, taken_fault, vacant_fault, covered_fault, covered_in, place_at, number_known}
 use Rattle.settlement.specs.Faults.{met_if, first_met, of_posting, answer_of}
 use Rattle.settlement.specs.Holdings.{entry_of}
-use Rattle.settlement.specs.Pool.{pool_of, hour_of}
-use Rattle.settlement.specs.PostingFaults.{hour_fault, line_fault, uncarried}
+use Rattle.settlement.specs.Legs.{hour_of}
+use Rattle.settlement.specs.Posting.{Posting}
+use Rattle.settlement.specs.PostingFaults.{hour_fault, posting_faults}
 use Rattle.settlement.specs.Power.{power_due}
-use Rattle.settlement.specs.Sums.{first_failing}
-use Rattle.settlement.proofs.Checks.{all_each}
-use Rattle.settlement.proofs.Measured.{unmet}
+use Rattle.settlement.proofs.Checked.{hour_within}
+use Rattle.settlement.proofs.FaultTables.{unmet, first_met_none, of_posting_none}
 use Rattle.settlement.proofs.Settles.{fitting}
-use Rattle.book.specs.Calls.{outcome, post_fault, unread_fault, withdraw_fault, enter_fault, cancel_fault, close_fault, statement_in, statement_fault, stated as stated_on}
+use Rattle.book.specs.Closing.{close_fault}
+use Rattle.book.specs.Entering.{enter_fault, cancel_fault}
 use Rattle.book.specs.Memory.{Memory, is_posted}
-use Rattle.standing.specs.Requests.{Opening, count_in, hours_in, Posting, Request, posting, unread, withdrawal, entering, cancelling, closing, statement}
-use Rattle.standing.specs.Standing.{State, open', closed, Standing, stands, fault_met, can_ask, changed, next}
-use Rattle.standing.specs.Worked.{accepted, stated, skipped, done, reply_to, reply}
-use Rattle.standing.proofs.Again.{first_failing_same}
-use Rattle.standing.proofs.Checked.{hour_within, of_posting_none}
+use Rattle.book.specs.Months.{setting_with}
+use Rattle.book.specs.Outcomes.{outcome}
+use Rattle.book.specs.Posting.{post_fault, unread_fault}
+use Rattle.book.specs.Statements.{statement_in, statement_fault, stated as stated_on}
+use Rattle.book.specs.Withdrawal.{withdraw_fault}
+use Rattle.standing.specs.Faults.{fault_met}
+use Rattle.standing.specs.Replies.{accepted, stated, skipped, done, told_as, reply}
+use Rattle.standing.specs.Requests.{Opening, count_in, hours_in, Request, posting, unread, withdrawal, entering, cancelling, closing, statement}
+use Rattle.standing.specs.Standing.{Standing, stands, setting_in}
+use Rattle.standing.specs.Turns.{can_ask, judged, changed, left_by, next}
 use Rattle.standing.proofs.Sound.{Opened, Sound}
-use Rattle.standing.proofs.Soundness.{none_there, first_met_none}
-use Rattle.runs.specs.declared.calls.Told.TheVariants.{Skipped}
+use Rattle.standing.proofs.Turns.{manner_asked, manner_unasked}
+use Rattle.runs.specs.declared.answers.Told.TheVariants.{Skipped}
 use Rattle.runs.specs.Reading.{reply_of}
-use Rattle.runs.specs.Runs.{Kept, kept_of, Turn, turn_of, done_as, stated_as, state_after, heard_in, heard}
+use Rattle.runs.specs.Runs.{Kept, kept_of, Turn, turn_of, done_as, stated_as, state_after, asked, skipped_by, heard}
 use Rattle.runs.proofs.Fits.{past_memory, no_size_fault}
 use Rattle.runs.proofs.Holds.{figures_of_opening, Held, Holds, mark_for}
 use Rattle.runs.proofs.Keeps.{held_rewritten, held_placed, held_charged, weights_read}
@@ -55,6 +65,11 @@ row_alone : {F : Type 0} (row : Option F) → first_met (row ∷ []) ≡ row
 row_alone None = refl
 row_alone (Some fault) = refl
 
+-- where there is none, it is none
+none_there : {X : Type 0} (x : Option X) → is_some x ≡ false → x ≡ None
+none_there None none = refl
+none_there (Some x) none = cc
+
 -- a request was answered as worked from what stands, and the book holds what then stands
 pub record Stepped (form : Meaning) (o : Opening) (s : Standing) (r : Request) (came : Turn) : Type 0 where
   pub told : reply_of came.answer ≡ reply form o s r
@@ -64,36 +79,36 @@ module _ (form : Meaning) (keeps : Keeps form) (o : Opening) (opened : Opened o)
   -- ---- a request that can be asked, and one that cannot
 
   -- what is told of a request that can be asked
-  asked_reply : (r : Request) → can_ask s.state r ≡ true → (fault : Option BookFault) → fault_met form o s r ≡ fault → reply_to form o s r fault ≡ reply form o s r
-  asked_reply r asked fault is = λ t. cond (sym asked t) (reply_to form o s r (sym is t)) skipped
+  asked_reply : (r : Request) → can_ask s.state r ≡ true → (fault : Option BookFault) → fault_met form o s r ≡ fault → told_as form o s r (judged fault) ≡ reply form o s r
+  asked_reply r asks fault is = ap (told_as form o s r) (sym (manner_asked form o s r asks fault is))
 
   -- and what then stands
-  asked_next : (r : Request) → can_ask s.state r ≡ true → (fault : Option BookFault) → fault_met form o s r ≡ fault → cond (not (is_some fault)) (changed r s) s ≡ next form o s r
-  asked_next r asked fault is = λ t. cond (sym asked t && not (is_some (sym is t))) (changed r s) s
+  asked_next : (r : Request) → can_ask s.state r ≡ true → (fault : Option BookFault) → fault_met form o s r ≡ fault → left_by (judged fault) r s ≡ next form o s r
+  asked_next r asks fault is = ap (λ how. left_by how r s) (sym (manner_asked form o s r asks fault is))
 
   -- one that cannot is skipped
-  unasked : (r : Request) (state : State) → state ≡ s.state → can_ask s.state r ≡ false → Stepped form o s r (turn_of (Ok Skipped) state m)
+  unasked : (r : Request) (state : State) → state ≡ s.state → can_ask s.state r ≡ false → Stepped form o s r (skipped_by (kept_of state m))
   unasked r state is never = record {
-    told = λ t. cond (sym never t) (reply_to form o s r (fault_met form o s r)) skipped;
-    holds = subst (λ then. Holds form o then (kept_of state m)) (λ t. cond (sym never t && not (is_some (fault_met form o s r))) (changed r s) s) (record { state = is; memory = held });
+    told = ap (told_as form o s r) (sym (manner_unasked form o s r never));
+    holds = subst (λ after. Holds form o after (kept_of state m)) (ap (λ how. left_by how r s) (sym (manner_unasked form o s r never))) (record { state = is; memory = held });
   }
 
   -- a call that meets the fault of its request, and otherwise leaves a book that holds what then stands
   call_step : {X : Type 0} (r : Request) → can_ask s.state r ≡ true → done form o s r ≡ accepted → (fault : Option BookFault) → fault ≡ fault_met form o s r →
       (x : X) (m' : Memory) (left : Result X BookFault → State) → ((why : BookFault) → left (Err why) ≡ s.state) →
       (fault_met form o s r ≡ None → Holds form o (changed r s) (kept_of (left (Ok x)) m')) →
-      Stepped form o s r (turn_of (done_as (outcome fault x m m').answer) (left (outcome fault x m m').answer) (outcome fault x m m').memory)
+      Stepped form o s r (turn_of (done_as (outcome fault x m m').answer) (kept_of (left (outcome fault x m m').answer) (outcome fault x m m').memory))
   call_step {X} r asked yields fault same x m' left refusing accepting = by fault (sym same)
     where
       by : (met : Option BookFault) → fault_met form o s r ≡ met →
-          Stepped form o s r (turn_of (done_as (outcome met x m m').answer) (left (outcome met x m m').answer) (outcome met x m m').memory)
+          Stepped form o s r (turn_of (done_as (outcome met x m m').answer) (kept_of (left (outcome met x m m').answer) (outcome met x m m').memory))
       by None is = record {
         told = sym yields ∙ asked_reply r asked None is;
-        holds = subst (λ then. Holds form o then (kept_of (left (Ok x)) m')) (asked_next r asked None is) (accepting is);
+        holds = subst (λ after. Holds form o after (kept_of (left (Ok x)) m')) (asked_next r asked None is) (accepting is);
       }
       by (Some why) is = record {
         told = asked_reply r asked (Some why) is;
-        holds = subst (λ then. Holds form o then (kept_of (left (Err why)) m)) (asked_next r asked (Some why) is) (record { state = refusing why; memory = held });
+        holds = subst (λ after. Holds form o after (kept_of (left (Err why)) m)) (asked_next r asked (Some why) is) (record { state = refusing why; memory = held });
       }
 
   -- ---- what marks and places tell
@@ -102,33 +117,34 @@ module _ (form : Meaning) (keeps : Keeps form) (o : Opening) (opened : Opened o)
   posted_same : (hour : ℕ) → hour < hours_in o → is_posted m.marks hour ≡ stands s hour
   posted_same hour within = ap (λ mark. not (eqb mark 0)) (held.marks hour within) ∙ mark_stands (s.posted hour)
 
-  -- so a contract that ends within the month covers the same standing hours
-  covered_same : (c : Contract) → c.last < hours_in o → covered_fault (is_posted m.marks) c ≡ covered_fault (stands s) c
-  covered_same c within =
+  -- so a contract that may stand covers the same standing hours
+  covered_same : (c : Contract) → contract_fits (setting_in form o s) c ≡ true → covered_fault (is_posted m.marks) c ≡ covered_fault (stands s) c
+  covered_same c fits =
+      let within : c.last < hours_in o = ltb-true c.last (hours_in o) (and_parts (leb c.first c.last) (ltb c.last (hours_in o)) (fitting (setting_in form o s) c fits).hours).1 in
       ap (option_map (λ hour. CoveredHour hour))
       (first_failing_same (λ hour. not (is_posted m.marks hour)) (λ hour. not (stands s hour)) c.first (c.last + 1 - c.first)
       (λ k below. ap not (posted_same (c.first + k) (omega arith))))
 
   -- and so does what is in a place
-  covered_place : (place : Option Contract) → place_fits form (hours_in o) o.agents place ≡ true → covered_in (is_posted m.marks) place ≡ covered_in (stands s) place
+  covered_place : (place : Option Contract) → place_fits (setting_in form o s) place ≡ true → covered_in (is_posted m.marks) place ≡ covered_in (stands s) place
   covered_place None fits = refl
-  covered_place (Some c) fits = covered_same c (fitting form (hours_in o) o.agents c fits).within
+  covered_place (Some c) fits = covered_same c fits
 
   -- what stands under a number may
-  place_fits_lem : (number : ℕ) → place_fits form (hours_in o) o.agents (place_at s.places number) ≡ true
+  place_fits_lem : (number : ℕ) → place_fits (setting_in form o s) (place_at s.places number) ≡ true
   place_fits_lem number =
       ⊎_elim
-      (λ (below : number - 1 < length s.places). all_each (place_fits form (hours_in o) o.agents) s.places (number - 1) None sound.contracts below)
-      (λ (past : length s.places ≤ number - 1). ap (place_fits form (hours_in o) o.agents) (get_or_past s.places (number - 1) None past))
+      (λ (below : number - 1 < length s.places). all_each (place_fits (setting_in form o s)) s.places (number - 1) None sound.contracts below)
+      (λ (past : length s.places ≤ number - 1). ap (place_fits (setting_in form o s)) (get_or_past s.places (number - 1) None past))
       (cases_lt (number - 1) (length s.places))
 
   -- ---- the fault that each call meets
 
   -- a posting's fault depends on the opening alone
-  post_fault_lem : (hour : ℕ) (p : Posting) → post_fault form (figures_of_opening o) hour p.price p.lines m ≡ fault_met form o s (posting hour p)
-  post_fault_lem hour p =
+  post_fault_lem : (p : Posting) → post_fault form (figures_of_opening o) p m ≡ fault_met form o s (posting p)
+  post_fault_lem p =
       past_memory form keeps o opened s sound m held _
-      ∙ (λ t. first_met (of_posting (line_fault (count_in o) (hours_in o) (held.agents t) hour p.price p.lines) ∷ met_if (uncarried (held.agents t) p.price p.lines) NoCarrier ∷ []))
+      ∙ (λ t. first_met (posting_faults (setting_with form (figures_of_opening o) (held.agents t) (held.contracts t)) p))
 
   -- memory is never met with the wrong size, so bytes that are no packet are told
   unread_fault_lem : (fault : ByteFault) → unread_fault (figures_of_opening o) fault m ≡ fault_met form o s (unread fault)
@@ -148,10 +164,10 @@ module _ (form : Meaning) (keeps : Keeps form) (o : Opening) (opened : Opened o)
   enter_fault_lem : (number : ℕ) (c : Contract) → enter_fault form (figures_of_opening o) number c m ≡ fault_met form o s (entering number c)
   enter_fault_lem number c =
       past_memory form keeps o opened s sound m held _
-      ∙ (λ t. first_met (taken_fault (held.contracts t) number ∷ terms_fault form (hours_in o) (held.agents t) c ∷ covered_fault (is_posted m.marks) c ∷ []))
+      ∙ (λ t. first_met (taken_fault (held.contracts t) number ∷ contract_fault (setting_with form (figures_of_opening o) (held.agents t) (held.contracts t)) c ∷ covered_fault (is_posted m.marks) c ∷ []))
       ∙ rows_after (taken_fault s.places number) _ _ (λ free.
-      rows_after (terms_fault form (hours_in o) o.agents c) _ _ (λ fine.
-      ap (λ row. first_met (row ∷ [])) (covered_same c (fitting form (hours_in o) o.agents c (not-false _ (unmet _ _ (sym fine)))).within)))
+      rows_after (contract_fault (setting_in form o s) c) _ _ (λ fine.
+      ap (λ row. first_met (row ∷ [])) (covered_same c (ap is_none fine))))
 
   -- a contract that stands ends within the month
   cancel_fault_lem : (number : ℕ) → cancel_fault form (figures_of_opening o) number m ≡ fault_met form o s (cancelling number)
@@ -183,109 +199,112 @@ module _ (form : Meaning) (keeps : Keeps form) (o : Opening) (opened : Opened o)
 
   -- a statement, of an open month or of a closed one
   statement_step : (agent : ℕ) (state : State) → state ≡ s.state → can_ask s.state (statement agent) ≡ true →
-      Stepped form o s (statement agent) (turn_of (stated_as (stated_on form (figures_of_opening o) agent m)) state m)
+      Stepped form o s (statement agent) (turn_of (stated_as (stated_on form (figures_of_opening o) agent m)) (kept_of state m))
   statement_step agent state is asked = by (statement_fault form (figures_of_opening o) agent m) (sym (statement_fault_lem agent))
     where
       by : (met : Option BookFault) → fault_met form o s (statement agent) ≡ met →
-          Stepped form o s (statement agent) (turn_of (stated_as (answer_of (statement_in (hours_in o) (agent - 1) m) met)) state m)
+          Stepped form o s (statement agent) (turn_of (stated_as (answer_of (statement_in (hours_in o) (agent - 1) m) met)) (kept_of state m))
       by None none = record {
         told = ap stated (statements_step form keeps o opened s sound m held (agent - 1) (statement_agent agent none)) ∙ asked_reply (statement agent) asked None none;
-        holds = subst (λ then. Holds form o then (kept_of state m)) (asked_next (statement agent) asked None none) (record { state = is; memory = held });
+        holds = subst (λ after. Holds form o after (kept_of state m)) (asked_next (statement agent) asked None none) (record { state = is; memory = held });
       }
       by (Some why) met = record {
         told = asked_reply (statement agent) asked (Some why) met;
-        holds = subst (λ then. Holds form o then (kept_of state m)) (asked_next (statement agent) asked (Some why) met) (record { state = is; memory = held });
+        holds = subst (λ after. Holds form o after (kept_of state m)) (asked_next (statement agent) asked (Some why) met) (record { state = is; memory = held });
       }
 
   -- ---- an open month
 
-  module _ (is : s.state ≡ open') where
+  module _ (is : s.state ≡ Open) where
     -- everything can be asked
     asked_open : (r : Request) → can_ask s.state r ≡ true
     asked_open r = ap (λ state. can_ask state r) is
 
     -- a posting, and so a correction
-    post_step : (hour : ℕ) (p : Posting) → Stepped form o s (posting hour p) (heard_in form (figures_of_opening o) (posting hour p) open' m)
-    post_step hour p =
-        call_step (posting hour p) (asked_open (posting hour p)) refl _ (post_fault_lem hour p) tt _ (λ answer. open') (λ why. sym is)
+    post_step : (p : Posting) → Stepped form o s (posting p) (asked form (figures_of_opening o) (posting p) (kept_of Open m))
+    post_step p =
+        call_step (posting p) (asked_open (posting p)) refl _ (post_fault_lem p) tt _ (λ answer. Open) (λ why. sym is)
         (λ none. record {
           state = sym is;
           memory =
-              held_rewritten form o s m held is hour (hour_within o hour p none) (Some p) 1 _ refl
-              (λ i agent t. entry_of (hour_of (pool_of form o.weekday (held.agents t) (held.contracts t)) hour p.price p.lines i));
+              held_rewritten form o s m held is p.hour (hour_within (setting_in form o s) p none) (Some p) 1 _ refl
+              (λ i agent t. entry_of (hour_of (setting_with form (figures_of_opening o) (held.agents t) (held.contracts t)) p i));
         })
 
     -- bytes that are no packet
-    unread_step : (fault : ByteFault) → Stepped form o s (unread fault) (heard_in form (figures_of_opening o) (unread fault) open' m)
+    unread_step : (fault : ByteFault) → Stepped form o s (unread fault) (asked form (figures_of_opening o) (unread fault) (kept_of Open m))
     unread_step fault =
-        call_step (unread fault) (asked_open (unread fault)) refl _ (unread_fault_lem fault) tt _ (λ answer. open') (λ why. sym is)
+        call_step (unread fault) (asked_open (unread fault)) refl _ (unread_fault_lem fault) tt _ (λ answer. Open) (λ why. sym is)
         (λ none. record { state = sym is; memory = held })
 
     -- a withdrawal
-    withdraw_step : (hour : ℕ) → Stepped form o s (withdrawal hour) (heard_in form (figures_of_opening o) (withdrawal hour) open' m)
+    withdraw_step : (hour : ℕ) → Stepped form o s (withdrawal hour) (asked form (figures_of_opening o) (withdrawal hour) (kept_of Open m))
     withdraw_step hour =
-        call_step (withdrawal hour) (asked_open (withdrawal hour)) refl _ (withdraw_fault_lem hour) tt _ (λ answer. open') (λ why. sym is)
+        call_step (withdrawal hour) (asked_open (withdrawal hour)) refl _ (withdraw_fault_lem hour) tt _ (λ answer. Open) (λ why. sym is)
         (λ none.
-        let within : hour < hours_in o = leb-false (hours_in o) hour (unmet _ _ (sym (of_posting_none _ (first_met_none (of_posting (hour_fault (hours_in o) hour)) _ none).0))) in
+        let within : hour < hours_in o = leb-false (hours_in o) hour (unmet _ _ (sym (of_posting_none _ (first_met_none (of_posting (hour_fault (hours_in o) hour) ∷ met_if (not (stands s hour)) (FreeHour hour) ∷ []) none).0))) in
         record { state = sym is; memory = held_rewritten form o s m held is hour within None 0 _ refl (λ i agent. refl) })
 
     -- a contract is entered where none stood
-    enter_step : (number : ℕ) (c : Contract) → Stepped form o s (entering number c) (heard_in form (figures_of_opening o) (entering number c) open' m)
+    enter_step : (number : ℕ) (c : Contract) → Stepped form o s (entering number c) (asked form (figures_of_opening o) (entering number c) (kept_of Open m))
     enter_step number c =
-        call_step (entering number c) (asked_open (entering number c)) refl _ (enter_fault_lem number c) tt _ (λ answer. open') (λ why. sym is)
+        call_step (entering number c) (asked_open (entering number c)) refl _ (enter_fault_lem number c) tt _ (λ answer. Open) (λ why. sym is)
         (λ none.
-        let rows = first_met_none (taken_fault s.places number) _ none in
+        let rows = first_met_none (taken_fault s.places number ∷ contract_fault (setting_in form o s) c ∷ covered_fault (stands s) c ∷ []) none in
         let vacant : place_at s.places number ≡ None = none_there _ (or_parts (not (number_known number)) (is_some (place_at s.places number)) (unmet _ _ (sym rows.0))).1 in
-        let uncovered : covered_fault (stands s) c ≡ None = sym (row_alone (covered_fault (stands s) c)) ∙ (first_met_none (terms_fault form (hours_in o) o.agents c) _ rows.1).1 in
-        record { state = sym is; memory = held_placed form o s number (Some c) (ap (covered_in (stands s)) vacant) uncovered m held })
+        record { state = sym is; memory = held_placed form o s sound number (Some c) (ap (covered_in (stands s)) vacant) rows.1.1.0 m held })
 
     -- and cancelled where it covers no standing hour
-    cancel_step : (number : ℕ) → Stepped form o s (cancelling number) (heard_in form (figures_of_opening o) (cancelling number) open' m)
+    cancel_step : (number : ℕ) → Stepped form o s (cancelling number) (asked form (figures_of_opening o) (cancelling number) (kept_of Open m))
     cancel_step number =
-        call_step (cancelling number) (asked_open (cancelling number)) refl _ (cancel_fault_lem number) tt _ (λ answer. open') (λ why. sym is)
+        call_step (cancelling number) (asked_open (cancelling number)) refl _ (cancel_fault_lem number) tt _ (λ answer. Open) (λ why. sym is)
         (λ none.
-        let covered : covered_in (stands s) (place_at s.places number) ≡ None = sym (row_alone _) ∙ (first_met_none (vacant_fault s.places number) _ none).1 in
-        record { state = sym is; memory = held_placed form o s number None covered refl m held })
+        let rows = first_met_none (vacant_fault s.places number ∷ covered_in (stands s) (place_at s.places number) ∷ []) none in
+        record { state = sym is; memory = held_placed form o s sound number None rows.1.0 refl m held })
 
     -- a closing charges power
-    close_step : Stepped form o s closing (heard_in form (figures_of_opening o) closing open' m)
+    close_step : Stepped form o s closing (asked form (figures_of_opening o) closing (kept_of Open m))
     close_step =
-        call_step closing (asked_open closing) refl _ close_fault_lem (figures_of_opening o) _ state_after (λ why. sym is)
+        call_step closing (asked_open closing) refl _ close_fault_lem (figures_of_opening o) _ (state_after Open) (λ why. sym is)
         (λ none. record { state = refl; memory = held_charged form keeps o opened s sound m held is })
 
-    -- each request
-    open_step : (r : Request) → Stepped form o s r (heard_in form (figures_of_opening o) r open' m)
-    open_step (posting hour p) = post_step hour p
-    open_step (unread fault) = unread_step fault
-    open_step (withdrawal hour) = withdraw_step hour
-    open_step (entering number c) = enter_step number c
-    open_step (cancelling number) = cancel_step number
-    open_step closing = close_step
-    open_step (statement agent) = statement_step agent open' (sym is) (asked_open (statement agent))
+  -- ---- each request
 
-  -- ---- a closed month
+  -- one that cannot be asked of a closed month is asked of an open one
+  open_if : (r : Request) → can_ask Closed r ≡ false → can_ask s.state r ≡ true → s.state ≡ Open
+  open_if r only asks = by s.state asks
+    where
+      by : (state : State) → can_ask state r ≡ true → state ≡ Open
+      by Open asks = refl
+      by Closed asks = absurd (false≢true (sym only ∙ asks))
 
-  -- only statements can be asked
-  closed_step : s.state ≡ closed → (r : Request) → Stepped form o s r (heard_in form (figures_of_opening o) r closed m)
-  closed_step is (posting hour p) = unasked (posting hour p) closed (sym is) (ap (λ state. can_ask state (posting hour p)) is)
-  closed_step is (unread fault) = unasked (unread fault) closed (sym is) (ap (λ state. can_ask state (unread fault)) is)
-  closed_step is (withdrawal hour) = unasked (withdrawal hour) closed (sym is) (ap (λ state. can_ask state (withdrawal hour)) is)
-  closed_step is (entering number c) = unasked (entering number c) closed (sym is) (ap (λ state. can_ask state (entering number c)) is)
-  closed_step is (cancelling number) = unasked (cancelling number) closed (sym is) (ap (λ state. can_ask state (cancelling number)) is)
-  closed_step is closing = unasked closing closed (sym is) (ap (λ state. can_ask state closing) is)
-  closed_step is (statement agent) = statement_step agent closed (sym is) (ap (λ state. can_ask state (statement agent)) is)
+  -- the step of an open month, at its state
+  at_open : (r : Request) (state : State) → s.state ≡ state → can_ask Closed r ≡ false → can_ask s.state r ≡ true →
+      (s.state ≡ Open → Stepped form o s r (asked form (figures_of_opening o) r (kept_of Open m))) → Stepped form o s r (asked form (figures_of_opening o) r (kept_of state m))
+  at_open r state at only asks step =
+      let is : s.state ≡ Open = open_if r only asks in subst (λ st. Stepped form o s r (asked form (figures_of_opening o) r (kept_of st m))) (sym is ∙ at) (step is)
 
-  -- ---- either
+  asked_step : (state : State) → s.state ≡ state → (r : Request) → can_ask s.state r ≡ true → Stepped form o s r (asked form (figures_of_opening o) r (kept_of state m))
+  asked_step state at (posting p) asks = at_open (posting p) state at refl asks (λ is. post_step is p)
+  asked_step state at (unread fault) asks = at_open (unread fault) state at refl asks (λ is. unread_step is fault)
+  asked_step state at (withdrawal hour) asks = at_open (withdrawal hour) state at refl asks (λ is. withdraw_step is hour)
+  asked_step state at (entering number c) asks = at_open (entering number c) state at refl asks (λ is. enter_step is number c)
+  asked_step state at (cancelling number) asks = at_open (cancelling number) state at refl asks (λ is. cancel_step is number)
+  asked_step state at closing asks = at_open closing state at refl asks (λ is. close_step is)
+  asked_step state at (statement agent) asks = statement_step agent state (sym at) asks
 
-  -- each request of a month that is open or closed
-  either_step : (state : State) → s.state ≡ state → (r : Request) → Stepped form o s r (heard_in form (figures_of_opening o) r state m)
-  either_step open' is r = open_step is r
-  either_step closed is r = closed_step is r
+  -- whether it can be asked or not
+  heard_step : (state : State) → s.state ≡ state → (r : Request) → Stepped form o s r (heard form (figures_of_opening o) r (kept_of state m))
+  heard_step state at r = by (can_ask state r) (ap (λ st. can_ask st r) at)
+    where
+      by : (asks : Bool) → can_ask s.state r ≡ asks → Stepped form o s r (if asks then asked form (figures_of_opening o) r (kept_of state m) else skipped_by (kept_of state m))
+      by true asks = asked_step state at r asks
+      by false never = unasked r state (sym at) never
 
 module _ (form : Meaning) (keeps : Keeps form) (o : Opening) (opened : Opened o) (s : Standing) (sound : Sound form o s) (k : Kept) (holds : Holds form o s k) (r : Request) where
   -- any request on a book that holds what stands
   pub stepped : Stepped form o s r (heard form (figures_of_opening o) r k)
-  stepped = either_step form keeps o opened s sound k.memory holds.memory k.state (sym holds.state) r
+  stepped = heard_step form keeps o opened s sound k.memory holds.memory k.state (sym holds.state) r
 
   -- is answered as worked from what stands
   pub heard_reply : reply_of (heard form (figures_of_opening o) r k).answer ≡ reply form o s r

@@ -1,3 +1,3 @@
+pub mod Lent
 pub mod Reading
-pub mod Told
 pub mod Runs

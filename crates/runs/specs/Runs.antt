@@ -1,20 +1,34 @@
 -- What requests come to in memory, one after another. Assumes nothing.
-use Rattle.std.specs.Prelude.{ℕ, Bool, cond, not, ◌||◌, List, [], ◌∷◌, map, ℤ, Ok, Err, Result, slice_index_or}
+use Rattle.std.specs.Prelude.{ℕ, Bool, not, ◌||◌, List, [], ◌∷◌, map, length, ℤ, Ok, Err, Option, Result, ◌==◌, if◌then◌else◌, slice_index_or}
 use Rattle.std.specs.List.{range_with_len, list_all}
+use Rattle.std.specs.Int.{int_wrap, w64}
 use Rattle.tally.specs.Peak.{no_peak}
+use Rattle.tally.specs.Sums.{sum_to_ℤ}
+use Rattle.calendar.specs.Limits.{hours_of}
 use Rattle.forms.specs.Meaning.{Meaning}
 use Rattle.settlement.specs.declared.faults.BookFault.{BookFault}
+use Rattle.settlement.specs.declared.faults.BookFault.TheVariants.{WrongSize}
+use Rattle.settlement.specs.declared.states.State.{State}
+use Rattle.settlement.specs.declared.states.State.TheVariants.{Closed}
+use Rattle.settlement.specs.Faults.{met_if, first_met}
 use Rattle.settlement.specs.Holdings.{no_holding}
 use Rattle.book.specs.declared.months.MonthFigures.{MonthFigures}
 use Rattle.book.specs.declared.statements.Statement.{Statement}
-use Rattle.book.specs.Calls.{posted, unread as refused_unread, withdrawn, entered, cancelled, closed as closed_by, statement_of, statement_in, stated}
+use Rattle.book.specs.Closing.{closed as closed_by}
+use Rattle.book.specs.Entering.{entered, cancelled}
+use Rattle.book.specs.Outcomes.{Outcome}
+use Rattle.book.specs.Posting.{posted, unread as refused_unread}
+use Rattle.book.specs.Statements.{statement_of, statement_in, statement_fault, stated}
+use Rattle.book.specs.Withdrawal.{withdrawn}
 use Rattle.book.specs.Memory.{Memory}
-use Rattle.book.specs.Months.{hours_of}
-use Rattle.standing.specs.Law.{is_done}
+use Rattle.standing.specs.Replies.{is_done}
 use Rattle.standing.specs.Requests.{Request, posting, unread, withdrawal, entering, cancelling, closing, statement, about_contracts}
-use Rattle.standing.specs.Standing.{State, open', closed}
-use Rattle.runs.specs.Reading.{Answer, reply_of}
-use Rattle.runs.specs.declared.calls.Told.TheVariants.{Accepted, Stated, Skipped}
+use Rattle.standing.specs.Turns.{can_ask}
+use Rattle.runs.specs.declared.lent.Lent.{Lent}
+use Rattle.runs.specs.declared.months.Month.{Month}
+use Rattle.runs.specs.declared.answers.Told.TheVariants.{Accepted, Stated, Skipped}
+use Rattle.runs.specs.Lent.{memory_in}
+use Rattle.runs.specs.Reading.{Answer, reply_of, state_of}
 
 -- a book as it is kept: its month is open or closed, and all its memory
 pub record Kept : Type 0 where
@@ -25,14 +39,20 @@ pub record Kept : Type 0 where
 abbrev pub kept_of : State → Memory → Kept
 kept_of state memory = record { state = state; memory = memory }
 
+-- the book of a month in lent memory
+abbrev pub kept_in : Month → Lent → Kept
+kept_in month lent = kept_of (state_of month) (memory_in lent)
+
 -- what a request is answered, and the book as it is kept then
 pub record Turn : Type 0 where
   pub answer : Answer
   pub kept : Kept
 
 -- from its parts
-abbrev pub turn_of : Answer → State → Memory → Turn
-turn_of answer state memory = record { answer = answer; kept = kept_of state memory }
+abbrev pub turn_of : Answer → Kept → Turn
+turn_of answer kept = record { answer = answer; kept = kept }
+
+-- ---- one request
 
 -- what is told of a call that gives nothing back
 abbrev pub done_as : {X : Type 0} → Result X BookFault → Answer
@@ -44,31 +64,39 @@ abbrev pub stated_as : Result Statement BookFault → Answer
 stated_as (Ok st) = Ok (Stated st)
 stated_as (Err fault) = Err fault
 
+-- a call that leaves the month as it was
+abbrev pub came_to : {X : Type 0} → State → Outcome X → Turn
+came_to state came = turn_of (done_as came.answer) (kept_of state came.memory)
+
 -- an accepted closing closes the month
-abbrev pub state_after : Result MonthFigures BookFault → State
-state_after (Ok f) = closed
-state_after (Err fault) = open'
+abbrev pub state_after : State → Result MonthFigures BookFault → State
+state_after state (Ok f) = Closed
+state_after state (Err fault) = state
 
--- one request on a book with these figures: of a closed month only statements can be asked
-abbrev pub heard_in : Meaning → MonthFigures → Request → State → Memory → Turn
-heard_in form f (posting hour p) open' m = let came = posted form f hour p.price p.lines m in turn_of (done_as came.answer) open' came.memory
-heard_in form f (unread fault) open' m = let came = refused_unread f fault m in turn_of (done_as came.answer) open' came.memory
-heard_in form f (withdrawal hour) open' m = let came = withdrawn form f hour m in turn_of (done_as came.answer) open' came.memory
-heard_in form f (entering number c) open' m = let came = entered form f number c m in turn_of (done_as came.answer) open' came.memory
-heard_in form f (cancelling number) open' m = let came = cancelled form f number m in turn_of (done_as came.answer) open' came.memory
-heard_in form f closing open' m = let came = closed_by form f m in turn_of (done_as came.answer) (state_after came.answer) came.memory
-heard_in form f (statement agent) open' m = turn_of (stated_as (stated form f agent m)) open' m
-heard_in form f (posting hour p) closed m = turn_of (Ok Skipped) closed m
-heard_in form f (unread fault) closed m = turn_of (Ok Skipped) closed m
-heard_in form f (withdrawal hour) closed m = turn_of (Ok Skipped) closed m
-heard_in form f (entering number c) closed m = turn_of (Ok Skipped) closed m
-heard_in form f (cancelling number) closed m = turn_of (Ok Skipped) closed m
-heard_in form f closing closed m = turn_of (Ok Skipped) closed m
-heard_in form f (statement agent) closed m = turn_of (stated_as (stated form f agent m)) closed m
+-- a closing
+abbrev pub closing_came_to : State → Outcome MonthFigures → Turn
+closing_came_to state came =
+    turn_of (done_as came.answer) (kept_of (state_after state came.answer) came.memory)
 
--- one request on a book as it is kept
+-- one request on a book with these figures, of which it can be asked
+abbrev pub asked : Meaning → MonthFigures → Request → Kept → Turn
+asked form f (posting p) k = came_to k.state (posted form f p k.memory)
+asked form f (unread fault) k = came_to k.state (refused_unread f fault k.memory)
+asked form f (withdrawal hour) k = came_to k.state (withdrawn form f hour k.memory)
+asked form f (entering number c) k = came_to k.state (entered form f number c k.memory)
+asked form f (cancelling number) k = came_to k.state (cancelled form f number k.memory)
+asked form f closing k = closing_came_to k.state (closed_by form f k.memory)
+asked form f (statement agent) k = turn_of (stated_as (stated form f agent k.memory)) k
+
+-- one that is skipped does nothing
+abbrev pub skipped_by : Kept → Turn
+skipped_by k = turn_of (Ok Skipped) k
+
+-- one request on a book as it is kept: where there is no way to ask it, it is skipped
 abbrev pub heard : Meaning → MonthFigures → Request → Kept → Turn
-heard form f r k = heard_in form f r k.state k.memory
+heard form f r k = if can_ask k.state r then asked form f r k else skipped_by k
+
+-- ---- one after another
 
 -- whether a run hears a request: one about contracts only if it hears contracts
 abbrev pub hears : Bool → Request → Bool
@@ -76,21 +104,26 @@ hears contracts r = contracts || not (about_contracts r)
 
 -- a request that a run does not hear is skipped
 abbrev pub turn : Bool → Meaning → MonthFigures → Request → Kept → Turn
-turn contracts form f r k = cond (hears contracts r) (heard form f r k) (turn_of (Ok Skipped) k.state k.memory)
+turn contracts form f r k = if hears contracts r then heard form f r k else skipped_by k
 
 -- the answers of a run to a list of requests
 abbrev pub answers_to : Bool → Meaning → MonthFigures → List Request → Kept → List Answer
 answers_to contracts form f [] k = []
-answers_to contracts form f (r ∷ rs) k = (turn contracts form f r k).answer ∷ answers_to contracts form f rs (turn contracts form f r k).kept
+answers_to contracts form f (r ∷ rs) k =
+    let came = turn contracts form f r k in
+    came.answer ∷ answers_to contracts form f rs came.kept
 
 -- the book after a list of requests
 abbrev pub kept_after : Bool → Meaning → MonthFigures → List Request → Kept → Kept
 kept_after contracts form f [] k = k
-kept_after contracts form f (r ∷ rs) k = kept_after contracts form f rs (turn contracts form f r k).kept
+kept_after contracts form f (r ∷ rs) k =
+    kept_after contracts form f rs (turn contracts form f r k).kept
 
 -- all of a run's answers say that something was done
 abbrev pub all_done : List Answer → Bool
 all_done answers = list_all (λ answer. is_done (reply_of answer)) answers
+
+-- ---- statements
 
 -- what stands past the last statement: nothing
 abbrev pub no_statement : Statement
@@ -100,6 +133,15 @@ no_statement = statement_of no_holding no_peak
 abbrev pub statements_in : MonthFigures → Memory → List Statement
 statements_in f m = map (λ i. statement_in (hours_of f.days) i m) (range_with_len 0 f.agents)
 
+-- the faults of giving them all: that there is not a place for each, and those of the first
+abbrev pub statements_fault : Meaning → MonthFigures → (places : ℕ) → Memory → Option BookFault
+statements_fault form f places m =
+    first_met (met_if (not (places == f.agents)) WrongSize ∷ statement_fault form f 1 m ∷ [])
+
 -- the balance of the statement at a place
 abbrev pub balance_at : List Statement → ℕ → ℤ
 balance_at statements i = (slice_index_or statements i no_statement).balance
+
+-- all balances together, modulo 2 ^ 64
+abbrev pub together : List Statement → ℤ
+together statements = int_wrap w64 (sum_to_ℤ (length statements) (balance_at statements))

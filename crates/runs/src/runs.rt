@@ -1,16 +1,20 @@
 //! Calls one after another.
-ghost use Rattle.std.specs.Prelude.{◌≡◌, map, length};
-ghost use Rattle.book.specs.Lent.{memory_in, memory_seen, memory_with, SameLoan};
+ghost use Rattle.std.specs.Prelude.{◌≡◌, ◌++◌, map, length, take, drop};
+ghost use Rattle.settlement.specs.declared.states.State.TheVariants.{Open, Closed};
+ghost use Rattle.book.specs.Lent.{memory_in as memory_of_pool, memory_seen, memory_with, SameLoan as SameLedger};
 ghost use Rattle.book.specs.Months.{figures_of, closed_figures_of};
 ghost use Rattle.standing.specs.Requests.{closing};
-ghost use Rattle.standing.specs.Standing.{open', closed};
+ghost use Rattle.runs.specs.Lent.{SameLoan};
 ghost use Rattle.runs.specs.Reading.{request_of, state_of, figures_in};
-ghost use Rattle.runs.specs.Runs.{kept_of, turn_of, done_as, heard, turn, answers_to, kept_after};
+ghost use Rattle.runs.specs.Runs.{kept_of, kept_in, turn_of, done_as, heard, turn, answers_to, kept_after};
 
-use crate::calls::{Answer, Call, Month, Told};
+use crate::answers::{Answer, Told};
+use crate::calls::Call;
+use crate::lent::Lent;
+use crate::months::Month;
 use book::{
-    Agent, BookFault, ClosedMonth, Ledger, OpenMonth, Pool, View, cancel, close, enter,
-    final_statement, post, post_packet, provisional, withdraw,
+    Agent, BookFault, ClosedMonth, Ledger, NumberedContract, OpenMonth, Pool, Posting, View,
+    cancel, close, enter, final_statement, post, post_packet, provisional, withdraw,
 };
 use forms::{Contract, ContractForm};
 
@@ -28,8 +32,10 @@ fn answer_close<F: ContractForm>(
     pool: &Pool<'_>,
     ledger: &mut Ledger<'_>,
 ) -> (Month, Answer)
-    ensures lent { SameLoan ledger.old ledger.new }
-    ensures turn { turn_of result.1 (state_of result.0) (memory_in pool.now ledger.new) ≡ heard (F.meaning form.now) (figures_of month) closing (kept_of open' (memory_in pool.now ledger.old)) }
+    ensures lent { SameLedger ledger.old ledger.new }
+    ensures turn { let before = kept_of Open (memory_of_pool pool.now ledger.old) in
+        let after = kept_of (state_of result.0) (memory_of_pool pool.now ledger.new) in
+        turn_of result.1 after ≡ heard (F.meaning form.now) (figures_of month) closing before }
     ensures figures { figures_in result.0 ≡ figures_of month }
 {
     match close(month, form, pool, ledger) {
@@ -47,20 +53,22 @@ fn answer_open<F: ContractForm>(
     contracts: &mut [Option<Contract>],
     ledger: &mut Ledger<'_>,
 ) -> (Month, Answer)
-    ensures lent { SameLoan ledger.old ledger.new }
-    ensures turn { turn_of result.1 (state_of result.0) (memory_with agents.now contracts.new ledger.new) ≡ heard (F.meaning form.now) (figures_of month) (request_of call.now) (kept_of open' (memory_with agents.now contracts.old ledger.old)) }
+    ensures lent { SameLedger ledger.old ledger.new }
+    ensures turn { let before = kept_of Open (memory_with agents.now contracts.old ledger.old) in
+        let after = kept_of (state_of result.0) (memory_with agents.now contracts.new ledger.new) in
+        turn_of result.1 after
+        ≡ heard (F.meaning form.now) (figures_of month) (request_of call.now) before }
     ensures figures { figures_in result.0 ≡ figures_of month }
 {
     let answer = match call {
-        Call::Post(posting) => told(post(
-            &month,
-            form,
-            posting.hour,
-            posting.price,
-            &posting.lines,
-            &Pool { agents, contracts },
-            ledger,
-        )),
+        Call::Post { hour, price, lines } => {
+            let posting = Posting {
+                hour: *hour,
+                price: *price,
+                lines,
+            };
+            told(post(&month, form, &posting, &Pool { agents, contracts }, ledger))
+        }
         Call::Packet(bytes) => told(post_packet(
             &month,
             form,
@@ -75,9 +83,13 @@ fn answer_open<F: ContractForm>(
             &Pool { agents, contracts },
             ledger,
         )),
-        Call::Enter { number, contract } => told(enter(
-            &month, form, *number, *contract, agents, contracts, ledger,
-        )),
+        Call::Enter { number, contract } => {
+            let numbered = NumberedContract {
+                number: *number,
+                contract: *contract,
+            };
+            told(enter(&month, form, numbered, agents, contracts, ledger))
+        }
         Call::Cancel(number) => told(cancel(&month, form, *number, agents, contracts, ledger)),
         Call::Close => return answer_close(month, form, &Pool { agents, contracts }, ledger),
         Call::Statement(agent) => provisional(
@@ -98,11 +110,13 @@ fn answer_closed<F: ContractForm>(
     call: &Call,
     view: &View<'_, '_>,
 ) -> Answer
-    ensures { turn_of result closed (memory_seen view.now) ≡ heard (F.meaning form.now) (closed_figures_of month.now) (request_of call.now) (kept_of closed (memory_seen view.now)) }
+    ensures { let before = kept_of Closed (memory_seen view.now) in
+        turn_of result before
+        ≡ heard (F.meaning form.now) (closed_figures_of month.now) (request_of call.now) before }
 {
     match call {
         Call::Statement(agent) => final_statement(month, form, *agent, view).map(Told::Stated),
-        Call::Post(_)
+        Call::Post { .. }
         | Call::Packet(_)
         | Call::Withdraw(_)
         | Call::Enter { .. }
@@ -116,23 +130,25 @@ pub fn answer<F: ContractForm>(
     month: Month,
     form: &F,
     call: &Call,
-    agents: &[Agent],
-    contracts: &mut [Option<Contract>],
-    ledger: &mut Ledger<'_>,
+    lent: &mut Lent<'_>,
 ) -> (Month, Answer)
-    ensures lent { SameLoan ledger.old ledger.new }
-    ensures turn { turn_of result.1 (state_of result.0) (memory_with agents.now contracts.new ledger.new) ≡ heard (F.meaning form.now) (figures_in month) (request_of call.now) (kept_of (state_of month) (memory_with agents.now contracts.old ledger.old)) }
+    ensures lent { SameLoan lent.old lent.new }
+    ensures turn { let before = kept_in month lent.old in
+        turn_of result.1 (kept_in result.0 lent.new)
+        ≡ heard (F.meaning form.now) (figures_in month) (request_of call.now) before }
     ensures figures { figures_in result.0 ≡ figures_in month }
 {
     match month {
-        Month::Open(open) => answer_open(open, form, call, agents, contracts, ledger),
+        Month::Open(open) => answer_open(
+            open,
+            form,
+            call,
+            lent.agents,
+            lent.contracts,
+            &mut lent.ledger,
+        ),
         Month::Closed(closed) => {
-            let answer = answer_closed(
-                &closed,
-                form,
-                call,
-                &ledger.view(&Pool { agents, contracts }),
-            );
+            let answer = answer_closed(&closed, form, call, &lent.view());
             (Month::Closed(closed), answer)
         }
     }
@@ -144,50 +160,48 @@ fn hear<F: ContractForm>(
     month: Month,
     form: &F,
     call: &Call,
-    agents: &[Agent],
-    contracts: &mut [Option<Contract>],
-    ledger: &mut Ledger<'_>,
+    lent: &mut Lent<'_>,
 ) -> (Month, Answer)
-    ensures lent { SameLoan ledger.old ledger.new }
-    ensures turn { turn_of result.1 (state_of result.0) (memory_with agents.now contracts.new ledger.new) ≡ turn hears_contracts (F.meaning form.now) (figures_in month) (request_of call.now) (kept_of (state_of month) (memory_with agents.now contracts.old ledger.old)) }
+    ensures lent { SameLoan lent.old lent.new }
+    ensures turn { let f = figures_in month in
+        let before = kept_in month lent.old in
+        turn_of result.1 (kept_in result.0 lent.new)
+        ≡ turn hears_contracts (F.meaning form.now) f (request_of call.now) before }
     ensures figures { figures_in result.0 ≡ figures_in month }
 {
     if hears_contracts || !call.is_about_contracts() {
-        answer(month, form, call, agents, contracts, ledger)
+        answer(month, form, call, lent)
     } else {
         (month, Ok(Told::Skipped))
     }
 }
 
-/// Makes the calls one after another, and writes each answer to its place. Calls about contracts are skipped if the run does not hear of them.
+/// Makes the calls one after another, as many as there are places for answers, and writes each answer to its place. Calls about contracts are
+/// skipped if the run does not hear of them.
 pub fn replay<F: ContractForm>(
     hears_contracts: bool,
     month: Month,
     form: &F,
     calls: &[Call],
-    agents: &[Agent],
-    contracts: &mut [Option<Contract>],
-    ledger: &mut Ledger<'_>,
+    lent: &mut Lent<'_>,
     answers: &mut [Answer],
 ) -> Month
-    requires { length answers.old ≡ length calls.now }
-    ensures lent { SameLoan ledger.old ledger.new }
-    ensures told { answers.new ≡ answers_to hears_contracts (F.meaning form.now) (figures_in month) (map request_of calls.now) (kept_of (state_of month) (memory_with agents.now contracts.old ledger.old)) }
-    ensures kept { kept_of (state_of result) (memory_with agents.now contracts.new ledger.new) ≡ kept_after hears_contracts (F.meaning form.now) (figures_in month) (map request_of calls.now) (kept_of (state_of month) (memory_with agents.now contracts.old ledger.old)) }
+    ensures lent { SameLoan lent.old lent.new }
+    ensures told { let requests = take (length answers.old) (map request_of calls.now) in
+        let before = kept_in month lent.old in
+        answers.new
+        ≡ answers_to hears_contracts (F.meaning form.now) (figures_in month) requests before
+        ++ drop (length calls.now) answers.old }
+    ensures kept { let requests = take (length answers.old) (map request_of calls.now) in
+        let before = kept_in month lent.old in
+        kept_in result lent.new
+        ≡ kept_after hears_contracts (F.meaning form.now) (figures_in month) requests before }
     ensures figures { figures_in result ≡ figures_in month }
 {
     let mut month = month;
-    // Kept by index: in a `for` over a zip with `iter_mut` nothing is known of what was written.
-    for (i, call) in calls.iter().enumerate() {
-        let (next, answer) = hear(
-            hears_contracts,
-            month,
-            form,
-            call,
-            agents,
-            contracts,
-            ledger,
-        );
+    let heard = &calls[..calls.len().min(answers.len())];
+    for (i, call) in heard.iter().enumerate() {
+        let (next, answer) = hear(hears_contracts, month, form, call, lent);
         month = next;
         answers[i] = answer;
     }

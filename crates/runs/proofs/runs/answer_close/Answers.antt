@@ -1,5 +1,5 @@
 use Rattle.forms.specs.Meaning.{Meaning}
-use Rattle.book.specs.Calls.{close_fault, charged}
+use Rattle.book.specs.Closing.{close_fault, charged}
 use Rattle.book.specs.Lent.{memory_in}
 use Rattle.book.specs.Memory.{Memory}
 use Rattle.book.specs.Months.{figures_of, closed_figures_of}

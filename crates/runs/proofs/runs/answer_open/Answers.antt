@@ -1,5 +1,5 @@
 use Rattle.std.proofs.Common.{ap, ◌∙◌, rules}
-use Rattle.book.specs.Calls.{stated}
+use Rattle.book.specs.Statements.{stated}
 use Rattle.book.specs.Months.{figures_of}
 use Rattle.runs.proofs.runs.answer_open.Goals as goal
 

@@ -1,7 +1,7 @@
 use Rattle.std.proofs.Common.{◌≡◌, ℕ, ◌<◌, length, get_or}
-use Rattle.book.specs.Calls.{statement_in}
-use Rattle.book.specs.Lent.{memory_seen}
-use Rattle.book.specs.Months.{hours_of}
+use Rattle.book.specs.Statements.{statement_in}
+use Rattle.calendar.specs.Limits.{hours_of}
+use Rattle.runs.specs.Lent.{memory_in}
 use Rattle.runs.specs.Reading.{figures_in}
 use Rattle.runs.specs.Runs.{no_statement}
 use Rattle.runs.proofs.totals.fill_statements.Given as goal
@@ -9,5 +9,5 @@ use Rattle.runs.proofs.totals.fill_statements.Given as goal
 abbrev pub invariant-loop-i : goal.invariant-loop-i
 invariant-loop-i g l = record {
   long : length l.statements ≡ (figures_in l.month).agents;
-  filled : (k : ℕ) → k < l.i → get_or l.statements k no_statement ≡ statement_in (hours_of (figures_in l.month).days) k (memory_seen l.view);
+  filled : (k : ℕ) → k < l.i → get_or l.statements k no_statement ≡ statement_in (hours_of (figures_in l.month).days) k (memory_in l.lent);
 }
