@@ -3,7 +3,7 @@ use crate::desk::{
     ACCEPTED, BLOCK, IDLE, LINES, Memory, RIGHT, Refusal, Told, close_and_retire, close_on,
     energy_alone, open_on, post_on, refused, state_finally_on,
 };
-use book::{ClosedMonth, OpenMonth, Statement};
+use book::{ClosedMonth, Line, OpenMonth, Posting, Statement};
 use std::process::Abort;
 use tally::{Energy, Money, Peak};
 
@@ -15,13 +15,6 @@ struct Ending<'a> {
     withdrawn: u64,
 }
 
-/// A month of which every hour is posted, and in which power is due and carried.
-const FULL: Ending<'static> = Ending {
-    free: &[],
-    power: 1,
-    withdrawn: 1,
-};
-
 /// Opens the month and makes it such.
 fn opened(memory: &mut Memory, ending: Ending<'_>) -> Result<OpenMonth, Refusal> {
     memory.agents[0].power = ending.power;
@@ -30,6 +23,17 @@ fn opened(memory: &mut Memory, ending: Ending<'_>) -> Result<OpenMonth, Refusal>
     memory.mark(ending.free, 0);
     memory.accounts[1] = energy_alone(0, ending.withdrawn);
     Ok(month)
+}
+
+/// Posts an hour at a price.
+fn post_hour(
+    memory: &mut Memory,
+    month: &OpenMonth,
+    hour: u32,
+    price: u32,
+    lines: &[Line],
+) -> Told {
+    post_on(memory, month, &Posting { hour, price, lines })
 }
 
 /// Closes the month. A refusal leaves all memory as it was, and gives a month back that can still be posted to.
@@ -44,7 +48,7 @@ fn ended(rt: &impl Abort, ending: Ending<'_>) -> Told {
         }
         Err((month, fault)) => {
             assert!(rt; memory == before);
-            let posted = post_on(&mut memory, &month, 0, 0, &[IDLE; 5]);
+            let posted = post_hour(&mut memory, &month, 0, 0, &[IDLE; 5]);
             assert_eq!(rt; posted, ACCEPTED);
             let _ = month.retire();
             Err(fault.into())
@@ -56,28 +60,18 @@ const EVERY_HOUR: [usize; 24] = [
     0, 1, 2, 3, 4, 5, 6, 7, 8, 9, 10, 11, 12, 13, 14, 15, 16, 17, 18, 19, 20, 21, 22, 23,
 ];
 
+// The free hours, the power of agent 1, what agent 2 withdrew, and the answer: an hour that is missing comes before power that nobody carries.
 #[test]
-fn hours_that_are_missing(rt: HostRuntime) {
-    let cases: [(&[usize], Told); 6] = [
-        (&[], ACCEPTED),
-        (&[0], refused(10, 0)),
-        (&[23], refused(10, 23)),
-        (&[12, 5, 23], refused(10, 5)),
-        (&[1, 0], refused(10, 0)),
-        (&EVERY_HOUR, refused(10, 0)),
-    ];
-    for (free, told) in cases {
-        assert_eq!(rt; ended(&rt, Ending { free, ..FULL }), told, "free {free:?}");
-    }
-}
-
-// The free hours, the power of agent 1 and what agent 2 withdrew.
-#[test]
-fn power_that_nobody_carries(rt: HostRuntime) {
-    let cases: [(&[usize], u32, u64, Told); 6] = [
+fn hours_that_are_missing_and_power_that_nobody_carries(rt: HostRuntime) {
+    let cases: [(&[usize], u32, u64, Told); 11] = [
+        (&[], 1, 1, ACCEPTED),
+        (&[0], 1, 1, refused(10, 0)),
+        (&[23], 1, 1, refused(10, 23)),
+        (&[12, 5, 23], 1, 1, refused(10, 5)),
+        (&[1, 0], 1, 1, refused(10, 0)),
+        (&EVERY_HOUR, 1, 1, refused(10, 0)),
         (&[], 0, 0, ACCEPTED),
         (&[], 0, 1, ACCEPTED),
-        (&[], 1, 1, ACCEPTED),
         (&[], 1, 0, refused(11, 0)),
         (&[], 1_000_000, 0, refused(11, 0)),
         (&[23], 1, 0, refused(10, 23)),
@@ -91,14 +85,14 @@ fn power_that_nobody_carries(rt: HostRuntime) {
         assert_eq!(rt;
             ended(&rt, ending),
             told,
-            "power {power}, withdrawn {withdrawn}"
+            "free {free:?}, power {power}, withdrawn {withdrawn}"
         );
     }
 }
 
 /// Posts the missing hour in a month that came back from a refused closing, and closes it.
 fn mended(memory: &mut Memory, month: OpenMonth, hour: u32) -> Told {
-    let posted = post_on(memory, &month, hour, 0, &[IDLE; 5]);
+    let posted = post_hour(memory, &month, hour, 0, &[IDLE; 5]);
     let told = close_and_retire(memory, month, RIGHT);
     posted?;
     told
@@ -107,7 +101,11 @@ fn mended(memory: &mut Memory, month: OpenMonth, hour: u32) -> Told {
 #[test]
 fn a_refused_closing_is_mended(rt: HostRuntime) -> Result<(), Refusal> {
     let mut memory = Memory::new();
-    let ending = Ending { free: &[3], ..FULL };
+    let ending = Ending {
+        free: &[3],
+        power: 1,
+        withdrawn: 1,
+    };
     let month = opened(&mut memory, ending)?;
     let told = match close_on(&mut memory, month, RIGHT) {
         Ok(closed) => {
@@ -222,7 +220,7 @@ fn power_is_shared_over_withdrawn_energy(rt: HostRuntime) {
 fn post_day(memory: &mut Memory, month: &OpenMonth) -> Told {
     for hour in 0..24 {
         let lines = if hour == 6 { LINES } else { [IDLE; 5] };
-        post_on(memory, month, hour, 60_000, &lines)?;
+        post_hour(memory, month, hour, 60_000, &lines)?;
     }
     Ok(())
 }

@@ -1,8 +1,6 @@
 //! Contracts entered in a book and cancelled.
-use crate::desk::{
-    ACCEPTED, BLOCK, Memory, RIGHT, Refusal, SHARE, Told, ledger_of, open_on, refused,
-};
-use book::{BookFault, OpenMonth, cancel, enter};
+use crate::desk::{ACCEPTED, BLOCK, Loan, Memory, RIGHT, Refusal, SHARE, Told, open_on, refused};
+use book::{BookFault, NumberedContract, OpenMonth, cancel, enter};
 use forms::{Contract, Product};
 use std::process::Abort;
 
@@ -10,46 +8,24 @@ use std::process::Abort;
 fn enter_in(
     memory: &mut Memory,
     month: &OpenMonth,
-    number: u32,
-    contract: Contract,
+    numbered: NumberedContract,
 ) -> Result<(), BookFault> {
-    let Memory {
+    let Loan {
         agents,
-        accounts,
         contracts,
-        marks,
-        entries,
-    } = memory;
-    let ledger = ledger_of(accounts, marks, entries, RIGHT);
-    enter(
-        month,
-        &Product,
-        number,
-        contract,
-        &agents[0..5],
-        &mut contracts[0..64],
-        &ledger,
-    )
+        ledger,
+    } = memory.lend(RIGHT);
+    enter(month, &Product, numbered, agents, contracts, &ledger)
 }
 
 /// Cancels the contract under a number.
 fn cancel_in(memory: &mut Memory, month: &OpenMonth, number: u32) -> Result<(), BookFault> {
-    let Memory {
+    let Loan {
         agents,
-        accounts,
         contracts,
-        marks,
-        entries,
-    } = memory;
-    let ledger = ledger_of(accounts, marks, entries, RIGHT);
-    cancel(
-        month,
-        &Product,
-        number,
-        &agents[0..5],
-        &mut contracts[0..64],
-        &ledger,
-    )
+        ledger,
+    } = memory.lend(RIGHT);
+    cancel(month, &Product, number, agents, contracts, &ledger)
 }
 
 /// Enters a contract. A refusal leaves all memory as it was.
@@ -61,7 +37,7 @@ fn enter_on(
     contract: Contract,
 ) -> Told {
     let before = *memory;
-    let said = enter_in(memory, month, number, contract);
+    let said = enter_in(memory, month, NumberedContract { number, contract });
     assert!(rt; said.is_ok() || *memory == before, "at number {number}");
     Ok(said?)
 }
@@ -85,111 +61,66 @@ fn entered(rt: &impl Abort, posted: &[usize], number: u32, contract: Contract) -
     told
 }
 
-#[test]
-fn numbers_to_enter_under(rt: HostRuntime) {
-    let cases = [
-        (0, refused(12, 0)),
-        (1, ACCEPTED),
-        (8, ACCEPTED),
-        (9, refused(12, 0)),
-        (10, ACCEPTED),
-        (64, ACCEPTED),
-        (65, refused(12, 0)),
-        (u32::MAX, refused(12, 0)),
-    ];
-    for (number, told) in cases {
-        assert_eq!(rt; entered(&rt, &[], number, BLOCK), told, "number {number}");
-    }
-}
+// Parties by number: agents 1 and 5 are generators, 2 and 4 distributors, 3 a large consumer.
 
-// Parties by number; agents 1 and 5 are generators, 2 and 4 distributors, 3 a large consumer.
-#[test]
-fn parties_that_may_contract(rt: HostRuntime) {
-    let refusal = refused(13, 0);
-    let cases = [
-        (1, 2, ACCEPTED),
-        (1, 3, ACCEPTED),
-        (2, 3, ACCEPTED),
-        (0, 2, refusal),
-        (6, 2, refusal),
-        (1, 0, refusal),
-        (1, 6, refusal),
-        (u32::MAX, 2, refusal),
-        (1, u32::MAX, refusal),
-        (1, 1, refusal),
-        (1, 5, refusal),
-        (2, 1, refusal),
-        (2, 4, refusal),
-        (3, 1, refusal),
-        (3, 2, refusal),
-    ];
-    for (seller, buyer, told) in cases {
-        let contract = Contract {
-            seller,
-            buyer,
-            ..BLOCK
-        };
-        assert_eq!(rt; entered(&rt, &[], 1, contract), told, "{seller} to {buyer}");
-    }
-}
+/// Sellers and buyers that may contract.
+const RIGHT_PARTIES: [(u32, u32); 3] = [(1, 2), (1, 3), (2, 3)];
 
-#[test]
-fn hours_that_a_contract_may_have(rt: HostRuntime) {
-    let refusal = refused(13, 0);
-    let cases = [
-        (0, 0, ACCEPTED),
-        (0, 23, ACCEPTED),
-        (23, 23, ACCEPTED),
-        (23, 22, refusal),
-        (0, 24, refusal),
-        (24, 24, refusal),
-        (0, 744, refusal),
-        (u32::MAX, 23, refusal),
-        (0, u32::MAX, refusal),
-    ];
-    for (first, last, told) in cases {
-        let contract = Contract {
-            first,
-            last,
-            ..BLOCK
-        };
-        assert_eq!(rt;
-            entered(&rt, &[], 1, contract),
-            told,
-            "hours {first} to {last}"
-        );
-    }
-}
+/// Those that may not: unknown ones, roles that do not go together, and an agent with itself.
+const WRONG_PARTIES: [(u32, u32); 14] = [
+    (0, 2),
+    (6, 2),
+    (1, 0),
+    (1, 6),
+    (u32::MAX, 2),
+    (1, u32::MAX),
+    (1, 1),
+    (2, 2),
+    (3, 3),
+    (1, 5),
+    (2, 1),
+    (2, 4),
+    (3, 1),
+    (3, 2),
+];
 
-#[test]
-fn terms_that_are_taken(rt: HostRuntime) {
-    let contracts = [
-        Contract {
-            price: 2_000_000,
-            ..BLOCK
-        },
-        Contract {
-            peak: 4_000_000,
-            medium: 4_000_000,
-            base: 4_000_000,
-            ..BLOCK
-        },
-        Contract {
-            seller: 2,
-            buyer: 3,
-            ..BLOCK
-        },
-        SHARE,
-        Contract { buyer: 4, ..SHARE },
-        Contract {
-            margin: 4_000_000,
-            ..SHARE
-        },
-    ];
-    for contract in contracts {
-        assert_eq!(rt; entered(&rt, &[], 1, contract), ACCEPTED, "{contract:?}");
-    }
-}
+/// First and last hours that a contract may have.
+const RIGHT_HOURS: [(u32, u32); 3] = [(0, 0), (0, 23), (23, 23)];
+
+/// Those that it may not.
+const WRONG_HOURS: [(u32, u32); 6] = [
+    (23, 22),
+    (0, 24),
+    (24, 24),
+    (0, 744),
+    (u32::MAX, 23),
+    (0, u32::MAX),
+];
+
+/// Terms that are taken.
+const RIGHT_TERMS: [Contract; 6] = [
+    Contract {
+        price: 2_000_000,
+        ..BLOCK
+    },
+    Contract {
+        peak: 4_000_000,
+        medium: 4_000_000,
+        base: 4_000_000,
+        ..BLOCK
+    },
+    Contract {
+        seller: 2,
+        buyer: 3,
+        ..BLOCK
+    },
+    SHARE,
+    Contract { buyer: 4, ..SHARE },
+    Contract {
+        margin: 4_000_000,
+        ..SHARE
+    },
+];
 
 /// Blocks that may not stand: agent 1 sells up to 4,000,000 kWh in an hour, agent 2 up to 100.
 const WRONG_BLOCKS: [Contract; 11] = [
@@ -257,57 +188,90 @@ const WRONG_SHARES: [Contract; 7] = [
     },
 ];
 
-#[test]
-fn terms_that_are_refused(rt: HostRuntime) {
-    for contract in WRONG_BLOCKS {
-        assert_eq!(rt;
-            entered(&rt, &[], 1, contract),
-            refused(13, 0),
-            "{contract:?}"
-        );
-    }
-    for contract in WRONG_SHARES {
-        assert_eq!(rt;
-            entered(&rt, &[], 1, contract),
-            refused(13, 0),
-            "{contract:?}"
-        );
+/// Enters a contract under number 1 in a book in which no hour is posted, and compares the answer.
+fn try_contract(rt: &impl Abort, contract: Contract, told: Told) {
+    assert_eq!(rt; entered(rt, &[], 1, contract), told, "{contract:?}");
+}
+
+/// The block between these parties.
+fn between((seller, buyer): (u32, u32)) -> Contract {
+    Contract {
+        seller,
+        buyer,
+        ..BLOCK
     }
 }
 
-// The hours that are posted, and the answer to a block for hours 5 to 7.
-#[test]
-fn covered_hours_at_entry(rt: HostRuntime) {
-    let cases: [(&[usize], Told); 7] = [
-        (&[4], ACCEPTED),
-        (&[5], refused(14, 5)),
-        (&[6], refused(14, 6)),
-        (&[7], refused(14, 7)),
-        (&[8], ACCEPTED),
-        (&[4, 6, 7, 8], refused(14, 6)),
-        (&[0, 1, 2, 3, 4, 8, 9, 23], ACCEPTED),
-    ];
-    for (posted, told) in cases {
-        assert_eq!(rt; entered(&rt, posted, 1, BLOCK), told, "posted {posted:?}");
+/// The block for these hours.
+fn during((first, last): (u32, u32)) -> Contract {
+    Contract {
+        first,
+        last,
+        ..BLOCK
     }
 }
 
-// Each has the faults of those after it too.
 #[test]
-fn the_number_comes_before_terms_and_covered_hours(rt: HostRuntime) {
+fn contracts_that_are_taken(rt: HostRuntime) {
+    for parties in RIGHT_PARTIES {
+        try_contract(&rt, between(parties), ACCEPTED);
+    }
+    for hours in RIGHT_HOURS {
+        try_contract(&rt, during(hours), ACCEPTED);
+    }
+    for terms in RIGHT_TERMS {
+        try_contract(&rt, terms, ACCEPTED);
+    }
+}
+
+#[test]
+fn contracts_that_are_refused(rt: HostRuntime) {
+    for parties in WRONG_PARTIES {
+        try_contract(&rt, between(parties), refused(13, 0));
+    }
+    for hours in WRONG_HOURS {
+        try_contract(&rt, during(hours), refused(13, 0));
+    }
+    for terms in WRONG_BLOCKS {
+        try_contract(&rt, terms, refused(13, 0));
+    }
+    for terms in WRONG_SHARES {
+        try_contract(&rt, terms, refused(13, 0));
+    }
+}
+
+// The hours that are posted, the number, the contract and the answer. A refused number comes before terms, and terms before covered hours; the
+// block is for hours 5 to 7.
+#[test]
+fn numbers_and_covered_hours_at_entry(rt: HostRuntime) {
     let wrong = Contract { kind: 3, ..BLOCK };
-    let cases = [
-        (65, wrong, refused(12, 0)),
-        (9, wrong, refused(12, 0)),
-        (9, BLOCK, refused(12, 0)),
-        (1, wrong, refused(13, 0)),
-        (1, BLOCK, refused(14, 5)),
+    let cases: [(&[usize], u32, Contract, Told); 20] = [
+        (&[], 0, BLOCK, refused(12, 0)),
+        (&[], 1, BLOCK, ACCEPTED),
+        (&[], 8, BLOCK, ACCEPTED),
+        (&[], 9, BLOCK, refused(12, 0)),
+        (&[], 10, BLOCK, ACCEPTED),
+        (&[], 64, BLOCK, ACCEPTED),
+        (&[], 65, BLOCK, refused(12, 0)),
+        (&[], u32::MAX, BLOCK, refused(12, 0)),
+        (&[4], 1, BLOCK, ACCEPTED),
+        (&[5], 1, BLOCK, refused(14, 5)),
+        (&[6], 1, BLOCK, refused(14, 6)),
+        (&[7], 1, BLOCK, refused(14, 7)),
+        (&[8], 1, BLOCK, ACCEPTED),
+        (&[4, 6, 7, 8], 1, BLOCK, refused(14, 6)),
+        (&[0, 1, 2, 3, 4, 8, 9, 23], 1, BLOCK, ACCEPTED),
+        (&[5, 6, 7], 65, wrong, refused(12, 0)),
+        (&[5, 6, 7], 9, wrong, refused(12, 0)),
+        (&[5, 6, 7], 9, BLOCK, refused(12, 0)),
+        (&[5, 6, 7], 1, wrong, refused(13, 0)),
+        (&[5, 6, 7], 1, BLOCK, refused(14, 5)),
     ];
-    for (number, contract, told) in cases {
+    for (posted, number, contract, told) in cases {
         assert_eq!(rt;
-            entered(&rt, &[5, 6, 7], number, contract),
+            entered(&rt, posted, number, contract),
             told,
-            "number {number}"
+            "number {number}, posted {posted:?}"
         );
     }
 }
@@ -325,26 +289,18 @@ fn cancelled(rt: &impl Abort, posted: &[usize], number: u32) -> Told {
     told
 }
 
+// The hours that are posted, the number and the answer.
 #[test]
-fn numbers_to_cancel(rt: HostRuntime) {
-    let cases = [
-        (0, refused(12, 0)),
-        (1, ACCEPTED),
-        (2, refused(12, 0)),
-        (9, ACCEPTED),
-        (63, refused(12, 0)),
-        (64, ACCEPTED),
-        (65, refused(12, 0)),
-        (u32::MAX, refused(12, 0)),
-    ];
-    for (number, told) in cases {
-        assert_eq!(rt; cancelled(&rt, &[4, 8], number), told, "number {number}");
-    }
-}
-
-#[test]
-fn covered_hours_at_cancelling(rt: HostRuntime) {
-    let cases: [(&[usize], u32, Told); 6] = [
+fn numbers_and_covered_hours_at_cancelling(rt: HostRuntime) {
+    let cases: [(&[usize], u32, Told); 14] = [
+        (&[4, 8], 0, refused(12, 0)),
+        (&[4, 8], 1, ACCEPTED),
+        (&[4, 8], 2, refused(12, 0)),
+        (&[4, 8], 9, ACCEPTED),
+        (&[4, 8], 63, refused(12, 0)),
+        (&[4, 8], 64, ACCEPTED),
+        (&[4, 8], 65, refused(12, 0)),
+        (&[4, 8], u32::MAX, refused(12, 0)),
         (&[4], 1, ACCEPTED),
         (&[5], 1, refused(14, 5)),
         (&[7], 1, refused(14, 7)),
@@ -353,7 +309,11 @@ fn covered_hours_at_cancelling(rt: HostRuntime) {
         (&[5, 6, 7], 2, refused(12, 0)),
     ];
     for (posted, number, told) in cases {
-        assert_eq!(rt; cancelled(&rt, posted, number), told, "posted {posted:?}");
+        assert_eq!(rt;
+            cancelled(&rt, posted, number),
+            told,
+            "number {number}, posted {posted:?}"
+        );
     }
 }
 

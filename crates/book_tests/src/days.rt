@@ -1,9 +1,10 @@
 //! A book of two agents and two days: its days, and packets that are posted to it.
-use crate::desk::{DISTRIBUTOR, GENERATOR, IDLE, Refusal, Told};
+use crate::desk::{DISTRIBUTOR, GENERATOR, IDLE, Loan, Refusal, Told};
 use book::{
-    Account, Agent, BookFault, Entry, Ledger, Line, MonthFigures, OpenMonth, Pool, day_total, open,
-    post, post_packet,
+    Agent, BookFault, Holding, Ledger, Line, MonthFigures, OpenMonth, Pool, Posting, day_total,
+    open, post, post_packet,
 };
+use calendar::Calendar;
 use forms::{Contract, Product};
 use tally::{Energy, Pair, Tally};
 
@@ -11,7 +12,7 @@ use tally::{Energy, Pair, Tally};
 const FIGURES: MonthFigures = MonthFigures {
     agents: 2,
     days: 2,
-    weekday: 6,
+    calendar: Calendar { weekday: 6 },
 };
 
 const AGENTS: [Agent; 2] = [GENERATOR, DISTRIBUTOR];
@@ -19,23 +20,16 @@ const AGENTS: [Agent; 2] = [GENERATOR, DISTRIBUTOR];
 /// All memory of the book but its agents.
 #[derive(Drop)]
 struct Memory {
-    accounts: [Account; 2],
+    accounts: [Holding; 2],
     contracts: [Option<Contract>; 64],
     marks: [u8; 48],
-    entries: [Entry; 96],
-}
-
-/// What the memory lends to a call.
-#[derive(Drop)]
-struct Loan<'m> {
-    contracts: &'m mut [Option<Contract>],
-    ledger: Ledger<'m>,
+    entries: [Holding; 96],
 }
 
 impl Memory {
     /// Memory of a book that is not opened yet.
     fn new() -> Memory {
-        let nothing: Entry = Pair::neutral();
+        let nothing: Holding = Pair::neutral();
         Memory {
             accounts: [nothing; 2],
             contracts: [None; 64],
@@ -53,6 +47,7 @@ impl Memory {
             entries,
         } = self;
         Loan {
+            agents: &AGENTS,
             contracts: &mut contracts[..],
             ledger: Ledger {
                 accounts: &mut accounts[..],
@@ -63,27 +58,24 @@ impl Memory {
     }
 }
 
-/// Posts the last hour of the first day, and the first of each day, in which the first agent injects twice what the second withdraws.
+/// Posts the first and the last hour of each day, in which the first agent injects twice what the second withdraws.
 fn post_two_days(
     month: &OpenMonth,
     pool: &Pool<'_>,
     ledger: &mut Ledger<'_>,
 ) -> Result<(), BookFault> {
-    for (hour, withdrawn) in [(23, 20), (0, 1), (24, 300)] {
+    for (hour, withdrawn) in [(23, 20), (0, 1), (47, 4_000), (24, 300)] {
         let injection = Line {
             injected: 2 * withdrawn,
             ..IDLE
         };
         let withdrawal = Line { withdrawn, ..IDLE };
-        post(
-            month,
-            &Product,
+        let posting = Posting {
             hour,
-            50_000,
-            &[injection, withdrawal],
-            pool,
-            ledger,
-        )?;
+            price: 50_000,
+            lines: &[injection, withdrawal],
+        };
+        post(month, &Product, &posting, pool, ledger)?;
     }
     Ok(())
 }
@@ -92,14 +84,12 @@ fn post_two_days(
 pub(crate) fn day_of(agent: u32, day: u32) -> Result<Energy, Refusal> {
     let mut memory = Memory::new();
     let Loan {
+        agents,
         contracts,
         mut ledger,
     } = memory.lend();
-    let month = open(FIGURES, &AGENTS, contracts, &mut ledger)?;
-    let pool = Pool {
-        agents: &AGENTS,
-        contracts,
-    };
+    let month = open(FIGURES, agents, contracts, &mut ledger)?;
+    let pool = Pool { agents, contracts };
     let posted = post_two_days(&month, &pool, &mut ledger);
     let total = day_total(&month, &Product, agent, day, &ledger.view(&pool));
     let _ = month.retire();
@@ -111,14 +101,12 @@ pub(crate) fn day_of(agent: u32, day: u32) -> Result<Energy, Refusal> {
 pub(crate) fn posted_to_two(bytes: &[u8]) -> Told {
     let mut memory = Memory::new();
     let Loan {
+        agents,
         contracts,
         mut ledger,
     } = memory.lend();
-    let month = open(FIGURES, &AGENTS, contracts, &mut ledger)?;
-    let pool = Pool {
-        agents: &AGENTS,
-        contracts,
-    };
+    let month = open(FIGURES, agents, contracts, &mut ledger)?;
+    let pool = Pool { agents, contracts };
     let said = post_packet(&month, &Product, bytes, &pool, &mut ledger);
     let _ = month.retire();
     Ok(said?)

@@ -1,13 +1,13 @@
 //! Memory for a book of five agents and one day, with a place more of each kind, and what is done on it.
 use book::{
-    Account, Agent, BookFault, ClosedMonth, Entry, Ledger, Line, MonthFigures, OpenMonth, Pool,
+    Agent, BookFault, ClosedMonth, Holding, Ledger, Line, MonthFigures, OpenMonth, Pool, Posting,
     Statement, close, final_statement, open, post, post_packet, provisional, withdraw,
 };
+use calendar::Calendar;
 use forms::{Contract, Delivery, Product};
 use tally::{Energy, Money, Pair, Tally};
 
 /// How much of the memory is lent to the call.
-// Kept beside arrays with a place more: the length that is lent is what is tried, so no buffer of exactly that length is plainer.
 #[derive(Clone, Copy)]
 pub(crate) struct Sizes {
     pub(crate) agents: usize,
@@ -30,7 +30,7 @@ pub(crate) const RIGHT: Sizes = Sizes {
 const FIGURES: MonthFigures = MonthFigures {
     agents: 5,
     days: 1,
-    weekday: 6,
+    calendar: Calendar { weekday: 6 },
 };
 
 /// A generator at every limit.
@@ -114,15 +114,21 @@ pub(crate) const SHARE: Contract = Contract {
 #[derive(Clone, Copy, PartialEq, Eq)]
 pub(crate) struct Memory {
     pub(crate) agents: [Agent; 6],
-    pub(crate) accounts: [Entry; 6],
+    pub(crate) accounts: [Holding; 6],
     pub(crate) contracts: [Option<Contract>; 65],
     pub(crate) marks: [u8; 25],
-    pub(crate) entries: [Entry; 121],
+    pub(crate) entries: [Holding; 121],
+}
+
+/// What the memory lends to a call.
+#[derive(Drop)]
+pub(crate) struct Loan<'m> {
+    pub(crate) agents: &'m [Agent],
+    pub(crate) contracts: &'m mut [Option<Contract>],
+    pub(crate) ledger: Ledger<'m>,
 }
 
 /// A refusal, by its number and place.
-// Kept as numbers by the rules of the pool: faults are looked up by number and place, and the tests keep their values.
-// Kept beside the `Refusal` of `audit_tests`: no crate under both is for tests alone.
 #[derive(Clone, Copy, PartialEq, Eq, Debug)]
 pub(crate) struct Refusal {
     pub(crate) number: u32,
@@ -148,8 +154,8 @@ pub(crate) fn refused(number: u32, place: u32) -> Told {
     Err(Refusal { number, place })
 }
 
-/// An entry or an account with energies alone.
-pub(crate) fn energy_alone(injected: u64, withdrawn: u64) -> Entry {
+/// A holding of energies alone.
+pub(crate) fn energy_alone(injected: u64, withdrawn: u64) -> Holding {
     Pair {
         first: Money::neutral(),
         second: Energy {
@@ -162,7 +168,7 @@ pub(crate) fn energy_alone(injected: u64, withdrawn: u64) -> Entry {
 impl Memory {
     /// Memory of a book that is not opened yet.
     pub(crate) fn new() -> Memory {
-        let nothing: Entry = Pair::neutral();
+        let nothing: Holding = Pair::neutral();
         Memory {
             agents: [
                 GENERATOR,
@@ -187,93 +193,70 @@ impl Memory {
             }
         }
     }
-}
 
-/// So much of an open book's accounts, marks and entries, lent to a call.
-pub(crate) fn ledger_of<'m>(
-    accounts: &'m mut [Account; 6],
-    marks: &'m mut [u8; 25],
-    entries: &'m mut [Entry; 121],
-    sizes: Sizes,
-) -> Ledger<'m> {
-    Ledger {
-        accounts: &mut accounts[0..sizes.accounts.min(6)],
-        marks: &mut marks[0..sizes.marks.min(25)],
-        entries: &mut entries[0..sizes.entries.min(121)],
+    /// So much of it, lent to a call.
+    pub(crate) fn lend(&mut self, sizes: Sizes) -> Loan<'_> {
+        let Memory {
+            agents,
+            accounts,
+            contracts,
+            marks,
+            entries,
+        } = self;
+        Loan {
+            agents: &agents[0..sizes.agents.min(6)],
+            contracts: &mut contracts[0..sizes.contracts.min(65)],
+            ledger: Ledger {
+                accounts: &mut accounts[0..sizes.accounts.min(6)],
+                marks: &mut marks[0..sizes.marks.min(25)],
+                entries: &mut entries[0..sizes.entries.min(121)],
+            },
+        }
     }
 }
 
 /// Opens the book on so much of its memory.
 pub(crate) fn open_on(memory: &mut Memory, sizes: Sizes) -> Result<OpenMonth, BookFault> {
-    let Memory {
+    let Loan {
         agents,
-        accounts,
         contracts,
-        marks,
-        entries,
-    } = memory;
-    let mut ledger = ledger_of(accounts, marks, entries, sizes);
-    let agents = &agents[0..sizes.agents.min(6)];
-    let contracts = &mut contracts[0..sizes.contracts.min(65)];
+        mut ledger,
+    } = memory.lend(sizes);
     open(FIGURES, agents, contracts, &mut ledger)
 }
 
 /// Posts an hour in a book that is open.
-pub(crate) fn post_on(
-    memory: &mut Memory,
-    month: &OpenMonth,
-    hour: u32,
-    price: u32,
-    lines: &[Line],
-) -> Told {
-    let Memory {
+pub(crate) fn post_on(memory: &mut Memory, month: &OpenMonth, posting: &Posting<'_>) -> Told {
+    let Loan {
         agents,
-        accounts,
         contracts,
-        marks,
-        entries,
-    } = memory;
-    let pool = Pool {
-        agents: &agents[0..RIGHT.agents.min(6)],
-        contracts: &contracts[0..RIGHT.contracts.min(65)],
-    };
-    let mut ledger = ledger_of(accounts, marks, entries, RIGHT);
-    post(month, &Product, hour, price, lines, &pool, &mut ledger)?;
+        mut ledger,
+    } = memory.lend(RIGHT);
+    let pool = Pool { agents, contracts };
+    post(month, &Product, posting, &pool, &mut ledger)?;
     Ok(())
 }
 
 /// Posts an hour by packet in a book that is open.
 pub(crate) fn post_packet_on(memory: &mut Memory, month: &OpenMonth, bytes: &[u8]) -> Told {
-    let Memory {
+    let Loan {
         agents,
-        accounts,
         contracts,
-        marks,
-        entries,
-    } = memory;
-    let pool = Pool {
-        agents: &agents[0..RIGHT.agents.min(6)],
-        contracts: &contracts[0..RIGHT.contracts.min(65)],
-    };
-    let mut ledger = ledger_of(accounts, marks, entries, RIGHT);
+        mut ledger,
+    } = memory.lend(RIGHT);
+    let pool = Pool { agents, contracts };
     post_packet(month, &Product, bytes, &pool, &mut ledger)?;
     Ok(())
 }
 
 /// Withdraws an hour in a book that is open.
 pub(crate) fn withdraw_on(memory: &mut Memory, month: &OpenMonth, hour: u32) -> Told {
-    let Memory {
+    let Loan {
         agents,
-        accounts,
         contracts,
-        marks,
-        entries,
-    } = memory;
-    let pool = Pool {
-        agents: &agents[0..RIGHT.agents.min(6)],
-        contracts: &contracts[0..RIGHT.contracts.min(65)],
-    };
-    let mut ledger = ledger_of(accounts, marks, entries, RIGHT);
+        mut ledger,
+    } = memory.lend(RIGHT);
+    let pool = Pool { agents, contracts };
     withdraw(month, &Product, hour, &pool, &mut ledger)?;
     Ok(())
 }
@@ -284,18 +267,12 @@ pub(crate) fn state_on(
     month: &OpenMonth,
     agent: u32,
 ) -> Result<Statement, Refusal> {
-    let Memory {
+    let Loan {
         agents,
-        accounts,
         contracts,
-        marks,
-        entries,
-    } = memory;
-    let pool = Pool {
-        agents: &agents[0..RIGHT.agents.min(6)],
-        contracts: &contracts[0..RIGHT.contracts.min(65)],
-    };
-    let ledger = ledger_of(accounts, marks, entries, RIGHT);
+        ledger,
+    } = memory.lend(RIGHT);
+    let pool = Pool { agents, contracts };
     Ok(provisional(month, &Product, agent, &ledger.view(&pool))?)
 }
 
@@ -305,18 +282,12 @@ pub(crate) fn close_on(
     month: OpenMonth,
     sizes: Sizes,
 ) -> Result<ClosedMonth, (OpenMonth, BookFault)> {
-    let Memory {
+    let Loan {
         agents,
-        accounts,
         contracts,
-        marks,
-        entries,
-    } = memory;
-    let pool = Pool {
-        agents: &agents[0..sizes.agents.min(6)],
-        contracts: &contracts[0..sizes.contracts.min(65)],
-    };
-    let mut ledger = ledger_of(accounts, marks, entries, sizes);
+        mut ledger,
+    } = memory.lend(sizes);
+    let pool = Pool { agents, contracts };
     close(month, &Product, &pool, &mut ledger)
 }
 
@@ -341,17 +312,11 @@ pub(crate) fn state_finally_on(
     sizes: Sizes,
     agent: u32,
 ) -> Result<Statement, Refusal> {
-    let Memory {
+    let Loan {
         agents,
-        accounts,
         contracts,
-        marks,
-        entries,
-    } = memory;
-    let pool = Pool {
-        agents: &agents[0..sizes.agents.min(6)],
-        contracts: &contracts[0..sizes.contracts.min(65)],
-    };
-    let ledger = ledger_of(accounts, marks, entries, sizes);
+        ledger,
+    } = memory.lend(sizes);
+    let pool = Pool { agents, contracts };
     Ok(final_statement(month, &Product, agent, &ledger.view(&pool))?)
 }

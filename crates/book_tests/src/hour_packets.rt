@@ -5,20 +5,19 @@ use crate::desk::{
     post_packet_on, refused,
 };
 use crate::trials::{Damage, LAST_HOUR, Trial, tried};
-use book::{Line, OpenMonth};
+use book::{Line, OpenMonth, Posting};
 use forms::Contract;
 use packets::{PacketLine, write_hour};
 use std::process::Abort;
 
 /// An hour packet: the first so many of these bytes, which have room for 64 idle lines.
 #[derive(Clone, Copy)]
-struct HourPacket {
+struct Packet {
     bytes: [u8; 600],
     size: usize,
 }
 
 /// A line as a packet carries it.
-// Kept beside the one of `audit_tests`: no crate under both is for tests alone.
 fn packet_line(line: &Line) -> PacketLine {
     let Line {
         class,
@@ -40,14 +39,6 @@ fn packet_line(line: &Line) -> PacketLine {
     }
 }
 
-/// An hour that is posted: its price and its lines.
-#[derive(Clone, Copy)]
-struct Hour<'a> {
-    hour: u32,
-    price: u32,
-    lines: &'a [Line],
-}
-
 /// How an hour comes.
 #[derive(Clone, Copy, Debug)]
 enum Way {
@@ -55,44 +46,42 @@ enum Way {
     Packet,
 }
 
-impl Hour<'_> {
-    /// The packet of the hour, which has at most 64 lines.
-    fn packet(&self) -> HourPacket {
+impl Packet {
+    /// The packet of a posting, which has at most 64 lines.
+    fn of(posting: &Posting<'_>) -> Packet {
         let mut lines = [PacketLine::NONE; 64];
-        for (place, line) in lines.iter_mut().zip(self.lines) {
+        for (place, line) in lines.iter_mut().zip(posting.lines) {
             *place = packet_line(line);
         }
-        let lines = &lines[..self.lines.len().min(64)];
+        let lines = &lines[..posting.lines.len().min(64)];
         let mut bytes = [0; 600];
-        let size = write_hour(self.hour, self.price, lines, &mut bytes).unwrap_or(0);
-        HourPacket { bytes, size }
+        let size = write_hour(posting.hour, posting.price, lines, &mut bytes).unwrap_or(0);
+        Packet { bytes, size }
     }
 
-    /// Posts the hour in a book that is open.
-    fn post(&self, way: Way, memory: &mut Memory, month: &OpenMonth) -> Told {
-        match way {
-            Way::Lines => post_on(memory, month, self.hour, self.price, self.lines),
-            Way::Packet => post_packet_on(memory, month, self.packet().bytes()),
-        }
-    }
-}
-
-impl HourPacket {
     fn bytes(&self) -> &[u8] {
         &self.bytes[..self.size.min(600)]
     }
 }
 
+/// Posts an hour in a book that is open.
+fn post_by(way: Way, memory: &mut Memory, month: &OpenMonth, posting: &Posting<'_>) -> Told {
+    match way {
+        Way::Lines => post_on(memory, month, posting),
+        Way::Packet => post_packet_on(memory, month, Packet::of(posting).bytes()),
+    }
+}
+
 /// Hour 6, in which agent 1 injects and agent 2 withdraws.
-const TRADE: Hour<'static> = Hour {
+const TRADE: Posting<'static> = Posting {
     hour: 6,
     price: 60_000,
     lines: &LINES,
 };
 
 /// The trade with other lines.
-fn with(lines: &[Line]) -> Hour<'_> {
-    Hour { lines, ..TRADE }
+fn with(lines: &[Line]) -> Posting<'_> {
+    Posting { lines, ..TRADE }
 }
 
 /// The lines of the trade with another at a place, counted from 0.
@@ -130,7 +119,7 @@ fn the_size_comes_before_the_bytes_and_the_bytes_before_the_rest(rt: HostRuntime
         ..RIGHT
     };
     let mark = Some(Damage::LastMark(2));
-    let outside = Hour { hour: 24, ..TRADE }.packet();
+    let outside = Packet::of(&Posting { hour: 24, ..TRADE });
     // the memory that is lent, what is damaged there, and the bytes
     let cases: [(Sizes, Option<Damage>, &[u8], Told); 9] = [
         (small, None, &[], refused(1, 0)),
@@ -175,10 +164,16 @@ fn bytes_that_are_no_packet(rt: HostRuntime) {
 }
 
 /// Posts an hour that is refused, from lines and by packet. Both leave all memory as it was.
-fn refuse(rt: &impl Abort, memory: &mut Memory, month: &OpenMonth, hour: Hour<'_>, told: Told) {
+fn refuse(
+    rt: &impl Abort,
+    memory: &mut Memory,
+    month: &OpenMonth,
+    posting: &Posting<'_>,
+    told: Told,
+) {
     let before = *memory;
     for way in [Way::Lines, Way::Packet] {
-        assert_eq!(rt; hour.post(way, memory, month), told, "{way:?}");
+        assert_eq!(rt; post_by(way, memory, month, posting), told, "{way:?}");
         assert!(rt; *memory == before);
     }
 }
@@ -216,10 +211,10 @@ fn hours_that_are_refused(rt: HostRuntime) -> Result<(), Refusal> {
     let mut memory = Memory::new();
     let month = open_on(&mut memory, RIGHT)?;
     memory.contracts[0] = Some(BLOCK);
-    assert_eq!(rt; TRADE.post(Way::Lines, &mut memory, &month), ACCEPTED);
+    assert_eq!(rt; post_on(&mut memory, &month, &TRADE), ACCEPTED);
     for (hour, price, lines, number, place) in cases {
-        let hour = Hour { hour, price, lines };
-        refuse(&rt, &mut memory, &month, hour, refused(number, place));
+        let posting = Posting { hour, price, lines };
+        refuse(&rt, &mut memory, &month, &posting, refused(number, place));
     }
     let _ = month.retire();
     Ok(())
@@ -237,21 +232,21 @@ fn a_packet_has_a_line_for_each_agent_of_the_book(rt: HostRuntime) {
     let lines = [IDLE; 64];
     for (count, told) in cases {
         assert!(rt; count <= 64);
-        let packet = with(&lines[..count]).packet();
+        let packet = Packet::of(&with(&lines[..count]));
         assert_eq!(rt; posted_to_two(packet.bytes()), told, "{count} lines");
     }
 }
 
 /// Posts hours one after another.
-fn post_all(memory: &mut Memory, month: &OpenMonth, hours: &[(Hour<'_>, Way)]) -> Told {
-    for (hour, way) in hours {
-        hour.post(*way, memory, month)?;
+fn post_all(memory: &mut Memory, month: &OpenMonth, hours: &[(Posting<'_>, Way)]) -> Told {
+    for (posting, way) in hours {
+        post_by(*way, memory, month, posting)?;
     }
     Ok(())
 }
 
 /// All memory after these hours were posted, where this contract stands.
-fn posted(contract: Option<Contract>, hours: &[(Hour<'_>, Way)]) -> Result<Memory, Refusal> {
+fn posted(contract: Option<Contract>, hours: &[(Posting<'_>, Way)]) -> Result<Memory, Refusal> {
     let mut memory = Memory::new();
     let month = open_on(&mut memory, RIGHT)?;
     memory.contracts[63] = contract;
@@ -266,7 +261,7 @@ const STANDING: [Option<Contract>; 3] = [None, Some(BLOCK), Some(SHARE)];
 
 #[test]
 fn a_packet_leaves_what_its_lines_would(rt: HostRuntime) -> Result<(), Refusal> {
-    let idle = Hour {
+    let idle = Posting {
         hour: 23,
         ..with(&[IDLE; 5])
     };
@@ -279,7 +274,7 @@ fn a_packet_leaves_what_its_lines_would(rt: HostRuntime) -> Result<(), Refusal> 
 }
 
 /// The trade with other figures.
-const DEARER: Hour<'static> = Hour {
+const DEARER: Posting<'static> = Posting {
     price: 80_000,
     lines: &[
         Line {

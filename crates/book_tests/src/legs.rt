@@ -1,8 +1,8 @@
 //! What contracts put on the contract lines of a month.
 use crate::desk::{
-    BLOCK, LINES, Memory, RIGHT, Refusal, SHARE, open_on, post_on, state_on, withdraw_on,
+    BLOCK, LINES, Memory, RIGHT, Refusal, SHARE, Told, open_on, post_on, state_on, withdraw_on,
 };
-use book::OpenMonth;
+use book::{OpenMonth, Posting};
 use forms::{Contract, Delivery};
 
 /// The contract lines of agents 1 and 2, and their balances.
@@ -27,12 +27,22 @@ fn worth_of(memory: &mut Memory, month: &OpenMonth) -> Result<Worth, Refusal> {
     })
 }
 
+/// Posts an hour of the trade at a price.
+fn trade(memory: &mut Memory, month: &OpenMonth, hour: u32, price: u32) -> Told {
+    let posting = Posting {
+        hour,
+        price,
+        lines: &LINES,
+    };
+    post_on(memory, month, &posting)
+}
+
 /// What an hour at a price of 60,000 is worth under a contract.
 fn worth_under(contract: Contract, hour: u32) -> Result<Worth, Refusal> {
     let mut memory = Memory::new();
     let month = open_on(&mut memory, RIGHT)?;
     memory.contracts[0] = Some(contract);
-    let said = post_on(&mut memory, &month, hour, 60_000, &LINES);
+    let said = trade(&mut memory, &month, hour, 60_000);
     let worth = worth_of(&mut memory, &month);
     let _ = month.retire();
     said?;
@@ -102,7 +112,7 @@ fn legs_of_all_contracts_add_up(rt: HostRuntime) -> Result<(), Refusal> {
         (8, -340_000),
     ];
     for (hour, points) in cases {
-        assert_eq!(rt; post_on(&mut memory, &month, hour, 60_000, &LINES), Ok(()));
+        assert_eq!(rt; trade(&mut memory, &month, hour, 60_000), Ok(()));
         let now = worth_of(&mut memory, &month);
         assert_eq!(rt;
             now.map(|now| now.contract),
@@ -128,7 +138,7 @@ fn corrections_under_a_contract(rt: HostRuntime) -> Result<(), Refusal> {
         (60_000, -10_000, [560_000, -583_640]),
     ];
     for (price, points, balance) in cases {
-        assert_eq!(rt; post_on(&mut memory, &month, 5, price, &LINES), Ok(()));
+        assert_eq!(rt; trade(&mut memory, &month, 5, price), Ok(()));
         let wanted = Worth {
             contract: [points, -points],
             balance,

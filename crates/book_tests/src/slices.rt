@@ -1,32 +1,34 @@
 //! A posting on memory that is lent part by part, by a host that holds no more than slices.
 ghost use Rattle.std.specs.Prelude.{◌≡◌};
-ghost use Rattle.book.specs.Calls.{outcome_of, posted};
+ghost use Rattle.forms.specs.Layers.{product_meaning};
+ghost use Rattle.settlement.specs.Posting.{posting_of};
 ghost use Rattle.book.specs.Memory.{memory_of};
 ghost use Rattle.book.specs.Months.{figures_of};
+ghost use Rattle.book.specs.Outcomes.{outcome_of};
+ghost use Rattle.book.specs.Posting.{posted};
 
-use book::{Account, Agent, BookFault, Entry, Ledger, Line, OpenMonth, Pool, post};
-use forms::{Contract, ContractForm};
+use book::{BookFault, Holding, Ledger, OpenMonth, Pool, Posting, post};
+use forms::Product;
 
 /// Posts an hour. What the host learns of each of its slices is what the definition of the call says.
-pub(crate) fn post_in<F: ContractForm>(
+pub(crate) fn post_in(
     month: &OpenMonth,
-    form: &F,
-    hour: u32,
-    price: u32,
-    lines: &[Line],
-    agents: &[Agent],
-    accounts: &mut [Account],
-    contracts: &[Option<Contract>],
+    posting: &Posting<'_>,
+    pool: &Pool<'_>,
+    accounts: &mut [Holding],
     marks: &mut [u8],
-    entries: &mut [Entry],
+    entries: &mut [Holding],
 ) -> Result<(), BookFault>
-    ensures { outcome_of result (memory_of agents.now accounts.new contracts.now marks.new entries.new) ≡ posted (F.meaning form.now) (figures_of month.now) hour price lines.now (memory_of agents.now accounts.old contracts.now marks.old entries.old) }
+    ensures { let lent = memory_of pool.now.agents.now in
+        let places = pool.now.contracts.now in
+        let before = lent accounts.old places marks.old entries.old in
+        outcome_of result (lent accounts.new places marks.new entries.new)
+        ≡ posted product_meaning (figures_of month.now) (posting_of posting.now) before }
 {
-    let pool = Pool { agents, contracts };
     let mut ledger = Ledger {
         accounts,
         marks,
         entries,
     };
-    post(month, form, hour, price, lines, &pool, &mut ledger)
+    post(month, &Product, posting, pool, &mut ledger)
 }

@@ -4,6 +4,7 @@ use crate::trials::{Damage, LAST_HOUR, Trial, opened, opened_over, tried};
 use book::{Agent, BookFault, LineFault};
 use forms::Contract;
 use packets::ByteFault;
+use std::process::Abort;
 use std::test::Fail;
 use tally::Energy;
 
@@ -24,6 +25,7 @@ const WRONG_SIZE: Told = Err(Refusal {
     place: 0,
 });
 
+/// The answer for a day or an agent that the book does not have.
 const OUTSIDE_BOOK: Result<Energy, Refusal> = Err(Refusal {
     number: 3,
     place: 0,
@@ -66,22 +68,24 @@ const WRONG_SIZES: [Sizes; 10] = [
     },
 ];
 
-#[test]
-fn right_memory_is_accepted(rt: HostRuntime) {
-    assert_eq!(rt; opened(RIGHT), ACCEPTED);
+/// Each call answers so on this much of the memory, with this figure damaged.
+fn try_calls(rt: &impl Abort, sizes: Sizes, damage: Option<Damage>, told: Told) {
     for trial in CALLS {
-        assert_eq!(rt; tried(&rt, RIGHT, None, trial), ACCEPTED);
+        assert_eq!(rt; tried(rt, sizes, damage, trial), told);
     }
 }
 
+// A wrong size is answered before a stored figure.
 #[test]
-fn memory_of_another_size_is_refused(rt: HostRuntime) {
-    for size in WRONG_SIZES {
-        assert_eq!(rt; opened(size), WRONG_SIZE);
-        for trial in CALLS {
-            assert_eq!(rt; tried(&rt, size, None, trial), WRONG_SIZE);
-        }
+fn memory_of_any_size(rt: HostRuntime) {
+    assert_eq!(rt; opened(RIGHT), ACCEPTED);
+    try_calls(&rt, RIGHT, None, ACCEPTED);
+    for sizes in WRONG_SIZES {
+        assert_eq!(rt; opened(sizes), WRONG_SIZE);
+        try_calls(&rt, sizes, None, WRONG_SIZE);
     }
+    let small = Sizes { marks: 23, ..RIGHT };
+    try_calls(&rt, small, Some(Damage::LastMark(2)), WRONG_SIZE);
 }
 
 /// Figures just outside their limits.
@@ -137,48 +141,44 @@ const OUTSIDE: [Damage; 11] = [
     },
 ];
 
+/// Figures at their limits.
+const WITHIN: [Damage; 5] = [
+    Damage::LastAgent(Agent {
+        role: 1,
+        capacity: 4_000_000,
+        power: 1_000_000,
+    }),
+    Damage::LastAgent(Agent {
+        role: 3,
+        capacity: 4_000_000,
+        power: 0,
+    }),
+    Damage::LastMark(1),
+    Damage::LastEntry {
+        injected: 4_000_000,
+        withdrawn: 4_000_000,
+    },
+    Damage::Accounts {
+        injected: 2_976_000_000,
+        first: 2_975_999_999,
+        second: 1,
+    },
+];
+
 #[test]
-fn stored_figures_outside_their_limits_are_refused(rt: HostRuntime) {
+fn stored_figures_and_their_limits(rt: HostRuntime) {
     for damage in OUTSIDE {
-        for trial in CALLS {
-            assert_eq!(rt; tried(&rt, RIGHT, Some(damage), trial), STORED);
-        }
+        try_calls(&rt, RIGHT, Some(damage), STORED);
+    }
+    for damage in WITHIN {
+        try_calls(&rt, RIGHT, Some(damage), ACCEPTED);
     }
 }
 
-#[test]
-fn stored_figures_at_their_limits_are_accepted(rt: HostRuntime) {
-    let damages = [
-        Damage::LastAgent(Agent {
-            role: 1,
-            capacity: 4_000_000,
-            power: 1_000_000,
-        }),
-        Damage::LastAgent(Agent {
-            role: 3,
-            capacity: 4_000_000,
-            power: 0,
-        }),
-        Damage::LastMark(1),
-        Damage::LastEntry {
-            injected: 4_000_000,
-            withdrawn: 4_000_000,
-        },
-        Damage::Accounts {
-            injected: 2_976_000_000,
-            first: 2_975_999_999,
-            second: 1,
-        },
-    ];
-    for damage in damages {
-        for trial in CALLS {
-            assert_eq!(rt; tried(&rt, RIGHT, Some(damage), trial), ACCEPTED);
-        }
-    }
-}
-
-/// Contracts that may not stand.
-const WRONG_CONTRACTS: [Contract; 13] = [
+/// Contracts that may not stand, those of a generator and of a distributor with itself among them.
+const WRONG_CONTRACTS: [Contract; 15] = [
+    Contract { buyer: 1, ..BLOCK },
+    Contract { seller: 2, ..BLOCK },
     Contract { seller: 0, ..BLOCK },
     Contract { seller: 6, ..BLOCK },
     Contract { buyer: 0, ..BLOCK },
@@ -202,15 +202,34 @@ const WRONG_CONTRACTS: [Contract; 13] = [
     Contract { buyer: 3, ..SHARE },
 ];
 
+/// Contracts that may stand.
+const RIGHT_CONTRACTS: [Contract; 3] = [
+    Contract {
+        first: 0,
+        last: 23,
+        price: 2_000_000,
+        peak: 4_000_000,
+        ..BLOCK
+    },
+    Contract {
+        seller: 2,
+        buyer: 3,
+        ..BLOCK
+    },
+    Contract {
+        buyer: 4,
+        margin: 4_000_000,
+        ..SHARE
+    },
+];
+
 #[test]
-fn stored_contracts_that_may_not_stand_are_refused(rt: HostRuntime) {
+fn stored_contracts(rt: HostRuntime) {
     for contract in WRONG_CONTRACTS {
-        for trial in CALLS {
-            assert_eq!(rt;
-                tried(&rt, RIGHT, Some(Damage::LastContract(contract)), trial),
-                STORED
-            );
-        }
+        try_calls(&rt, RIGHT, Some(Damage::LastContract(contract)), STORED);
+    }
+    for contract in RIGHT_CONTRACTS {
+        try_calls(&rt, RIGHT, Some(Damage::LastContract(contract)), ACCEPTED);
     }
 }
 
@@ -222,127 +241,89 @@ fn an_opening_takes_any_stored_contract_and_mark(rt: HostRuntime) {
     }
 }
 
-#[test]
-fn stored_contracts_that_may_stand_are_accepted(rt: HostRuntime) {
-    let contracts = [
-        Contract {
-            first: 0,
-            last: 23,
-            price: 2_000_000,
-            peak: 4_000_000,
-            ..BLOCK
-        },
-        Contract {
-            seller: 2,
-            buyer: 3,
-            ..BLOCK
-        },
-        Contract {
-            buyer: 4,
-            margin: 4_000_000,
-            ..SHARE
-        },
-    ];
-    for contract in contracts {
-        for trial in CALLS {
-            assert_eq!(rt;
-                tried(&rt, RIGHT, Some(Damage::LastContract(contract)), trial),
-                ACCEPTED
-            );
-        }
-    }
+/// The energies of a day.
+fn energy(injected: u64, withdrawn: u64) -> Result<Energy, Refusal> {
+    Ok(Energy {
+        injected,
+        withdrawn,
+    })
 }
 
-#[test]
-fn a_wrong_size_is_answered_before_a_stored_figure(rt: HostRuntime) {
-    for trial in CALLS {
-        assert_eq!(rt;
-            tried(
-                &rt,
-                Sizes { marks: 23, ..RIGHT },
-                Some(Damage::LastMark(2)),
-                trial
-            ),
-            WRONG_SIZE
-        );
-    }
-}
-
-// An agent and a day, and what the day comes to.
+// An agent and a day, and what the day comes to: of the hours posted, its own first and last alone.
 #[test]
 fn days_are_totals_of_their_own_hours(rt: HostRuntime) {
-    let cases = [(1, 1, 42, 0), (2, 1, 0, 21), (1, 2, 600, 0), (2, 2, 0, 300)];
-    for (agent, day, injected, withdrawn) in cases {
-        assert_eq!(rt;
-            day_of(agent, day),
-            Ok(Energy {
-                injected,
-                withdrawn
-            })
-        );
+    let cases = [
+        (1, 1, energy(42, 0)),
+        (2, 1, energy(0, 21)),
+        (1, 2, energy(8_600, 0)),
+        (2, 2, energy(0, 4_300)),
+        (0, 1, OUTSIDE_BOOK),
+        (3, 1, OUTSIDE_BOOK),
+        (u32::MAX, 1, OUTSIDE_BOOK),
+        (1, 0, OUTSIDE_BOOK),
+        (2, 3, OUTSIDE_BOOK),
+        (1, u32::MAX, OUTSIDE_BOOK),
+    ];
+    for (agent, day, total) in cases {
+        assert_eq!(rt; day_of(agent, day), total, "agent {agent}, day {day}");
     }
 }
 
-#[test]
-fn days_outside_the_book_are_refused(rt: HostRuntime) {
-    for (agent, day) in [(0, 1), (3, 1), (u32::MAX, 1), (1, 0), (2, 3), (1, u32::MAX)] {
-        assert_eq!(rt; day_of(agent, day), OUTSIDE_BOOK);
-    }
-}
+/// Each fault, in words.
+const FAULT_WORDS: [(BookFault, &str); 15] = [
+    (BookFault::WrongSize, "memory of the wrong size"),
+    (
+        BookFault::StoredOutside,
+        "a stored figure is outside its limit",
+    ),
+    (
+        BookFault::OutsideBook,
+        "a figure of the opening or the statement's agent is outside the book's limits",
+    ),
+    (
+        BookFault::Posting(LineFault::Packet(ByteFault::Malformed(49))),
+        "no number that the format allows starts at byte 49, or bytes are left over from there on",
+    ),
+    (
+        BookFault::Posting(LineFault::HourOutside(24)),
+        "the hour is outside the month",
+    ),
+    (
+        BookFault::Posting(LineFault::OutsideLimit(1)),
+        "the line count, the price or a figure of the line is outside its limit",
+    ),
+    (
+        BookFault::Posting(LineFault::BreaksRule(1)),
+        "the line breaks a rule on class, cause, gross or cost",
+    ),
+    (
+        BookFault::Posting(LineFault::TooMuchTogether),
+        "all injected or all withdrawn energy together is above the limit",
+    ),
+    (
+        BookFault::NoCarrier,
+        "obligated excess and no withdrawn energy carries it",
+    ),
+    (BookFault::FreeHour(3), "the hour is free"),
+    (BookFault::MissingHour(3), "an hour of the month is missing"),
+    (
+        BookFault::NoPowerCarrier,
+        "power is due and no withdrawn energy carries it",
+    ),
+    (
+        BookFault::ContractNumber,
+        "the contract number is outside 1 to 64, taken or not standing",
+    ),
+    (
+        BookFault::ContractTerms,
+        "the contract's parties, hours, figures or terms do not fit",
+    ),
+    (BookFault::CoveredHour(3), "a covered hour stands"),
+];
 
 #[test]
 fn faults_are_told_in_words(rt: HostRuntime) -> Result<(), Fail> {
-    let cases = [
-        (BookFault::WrongSize, "memory of the wrong size"),
-        (
-            BookFault::StoredOutside,
-            "a stored figure is outside its limit",
-        ),
-        (
-            BookFault::OutsideBook,
-            "a figure of the opening or the statement's agent is outside the book's limits",
-        ),
-        (
-            BookFault::Posting(LineFault::Packet(ByteFault::Malformed(49))),
-            "no number that the format allows starts at byte 49, or bytes are left over from there on",
-        ),
-        (
-            BookFault::Posting(LineFault::HourOutside(24)),
-            "the hour is outside the month",
-        ),
-        (
-            BookFault::Posting(LineFault::OutsideLimit(1)),
-            "the line count, the price or a figure of the line is outside its limit",
-        ),
-        (
-            BookFault::Posting(LineFault::BreaksRule(1)),
-            "the line breaks a rule on class, cause, gross or cost",
-        ),
-        (
-            BookFault::Posting(LineFault::TooMuchTogether),
-            "all injected or all withdrawn energy together is above the limit",
-        ),
-        (
-            BookFault::NoCarrier,
-            "obligated excess and no withdrawn energy carries it",
-        ),
-        (BookFault::FreeHour(3), "the hour is free"),
-        (BookFault::MissingHour(3), "an hour of the month is missing"),
-        (
-            BookFault::NoPowerCarrier,
-            "power is due and no withdrawn energy carries it",
-        ),
-        (
-            BookFault::ContractNumber,
-            "the contract number is outside 1 to 64, taken or not standing",
-        ),
-        (
-            BookFault::ContractTerms,
-            "the contract's parties, hours, figures or terms do not fit",
-        ),
-        (BookFault::CoveredHour(3), "a covered hour stands"),
-    ];
-    for (fault, words) in cases {
+    for (fault, words) in FAULT_WORDS {
         assert_eq!(rt; fault.to_string(rt.alloc())?.as_str(), words);
     }
     Ok(())

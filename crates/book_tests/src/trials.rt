@@ -1,18 +1,17 @@
 //! One call on memory of a wrong size, or with a damaged figure.
 use crate::desk::{
-    BLOCK, IDLE, Memory, RIGHT, Sizes, Told, close_and_retire, close_on, energy_alone, ledger_of,
+    BLOCK, IDLE, Loan, Memory, RIGHT, Sizes, Told, close_and_retire, close_on, energy_alone,
     open_on, state_finally_on,
 };
 use crate::slices::post_in;
 use book::{
-    Agent, BookFault, Ledger, Line, OpenMonth, Pool, cancel, day_total, enter, post_packet,
-    provisional, withdraw,
+    Agent, BookFault, Ledger, Line, NumberedContract, OpenMonth, Pool, Posting, cancel, day_total,
+    enter, post_packet, provisional, withdraw,
 };
 use forms::{Contract, Product};
 use std::process::Abort;
 
 /// A stored figure, changed between the opening and the call.
-// Kept as an enum: the cases are a table that each call goes through, and a list of closures would have to hold boxed ones.
 #[derive(Clone, Copy)]
 pub(crate) enum Damage {
     LastAgent(Agent),
@@ -30,7 +29,6 @@ pub(crate) enum Damage {
 }
 
 /// The call that is tried.
-// Kept as an enum: a list of calls would have to hold boxed closures, which is no plainer.
 #[derive(Clone, Copy, PartialEq, Eq)]
 pub(crate) enum Trial<'a> {
     Post,
@@ -99,27 +97,22 @@ impl Memory {
     }
 }
 
-/// A call that enters a contract, or cancels one.
+/// A call that enters the block under number 2, or cancels the contract under number 1.
 fn call_on_contracts(
     month: &OpenMonth,
     trial: Trial<'_>,
-    memory: &mut Memory,
-    sizes: Sizes,
+    agents: &[Agent],
+    contracts: &mut [Option<Contract>],
+    ledger: &Ledger<'_>,
 ) -> Result<(), BookFault> {
-    let Memory {
-        agents,
-        accounts,
-        contracts,
-        marks,
-        entries,
-    } = memory;
-    let ledger = ledger_of(accounts, marks, entries, sizes);
-    let agents = &agents[0..sizes.agents.min(6)];
-    let contracts = &mut contracts[0..sizes.contracts.min(65)];
-    match trial {
-        Trial::Cancel => cancel(month, &Product, 1, agents, contracts, &ledger),
-        _ => enter(month, &Product, 2, BLOCK, agents, contracts, &ledger),
+    if trial == Trial::Cancel {
+        return cancel(month, &Product, 1, agents, contracts, ledger);
     }
+    let block = NumberedContract {
+        number: 2,
+        contract: BLOCK,
+    };
+    enter(month, &Product, block, agents, contracts, ledger)
 }
 
 /// A call that writes hours, or looks into an open month.
@@ -142,13 +135,13 @@ fn call_on_hours(
         }
         _ => post_in(
             month,
-            &Product,
-            23,
-            50_000,
-            &[LINE; 5],
-            pool.agents,
+            &Posting {
+                hour: 23,
+                price: 50_000,
+                lines: &[LINE; 5],
+            },
+            pool,
             ledger.accounts,
-            pool.contracts,
             ledger.marks,
             ledger.entries,
         ),
@@ -162,21 +155,15 @@ fn call(
     memory: &mut Memory,
     sizes: Sizes,
 ) -> Result<(), BookFault> {
-    if trial == Trial::Enter || trial == Trial::Cancel {
-        return call_on_contracts(month, trial, memory, sizes);
-    }
-    let Memory {
+    let Loan {
         agents,
-        accounts,
         contracts,
-        marks,
-        entries,
-    } = memory;
-    let pool = Pool {
-        agents: &agents[0..sizes.agents.min(6)],
-        contracts: &contracts[0..sizes.contracts.min(65)],
-    };
-    let mut ledger = ledger_of(accounts, marks, entries, sizes);
+        mut ledger,
+    } = memory.lend(sizes);
+    if trial == Trial::Enter || trial == Trial::Cancel {
+        return call_on_contracts(month, trial, agents, contracts, &ledger);
+    }
+    let pool = Pool { agents, contracts };
     call_on_hours(month, trial, &pool, &mut ledger)
 }
 
