@@ -3,7 +3,7 @@ use crate::desk::{
     BLOCK, IDLE, Loan, Memory, RIGHT, Sizes, Told, close_and_retire, close_on, energy_alone,
     open_on, state_finally_on,
 };
-use crate::slices::post_in;
+use crate::slices::{Host, post_in};
 use book::{
     Agent, BookFault, Ledger, Line, NumberedContract, OpenMonth, Pool, Posting, cancel, day_total,
     enter, post_packet, provisional, withdraw,
@@ -115,6 +115,28 @@ fn call_on_contracts(
     enter(month, &Product, block, agents, contracts, ledger)
 }
 
+/// Posts the last hour of the day.
+fn post_last(month: &OpenMonth, pool: &Pool<'_>, ledger: &mut Ledger<'_>) -> Result<(), BookFault> {
+    let host = Host {
+        month,
+        form: &Product,
+        agents: pool.agents,
+        contracts: pool.contracts,
+    };
+    let posting = Posting {
+        hour: 23,
+        price: 50_000,
+        lines: &[LINE; 5],
+    };
+    post_in(
+        &host,
+        &posting,
+        ledger.accounts,
+        ledger.marks,
+        ledger.entries,
+    )
+}
+
 /// A call that writes hours, or looks into an open month.
 fn call_on_hours(
     month: &OpenMonth,
@@ -133,18 +155,7 @@ fn call_on_hours(
             day_total(month, &Product, 5, 1, &ledger.view(pool))?;
             Ok(())
         }
-        _ => post_in(
-            month,
-            &Posting {
-                hour: 23,
-                price: 50_000,
-                lines: &[LINE; 5],
-            },
-            pool,
-            ledger.accounts,
-            ledger.marks,
-            ledger.entries,
-        ),
+        _ => post_last(month, pool, ledger),
     }
 }
 
