@@ -4,14 +4,12 @@ use Rattle.std.specs.List.{list_all}
 use Rattle.std.proofs.lemmas.List.{take_more, length-take, append-nil}
 use Rattle.forms.specs.declared.Contract.{Contract}
 use Rattle.forms.specs.Meaning.{Meaning}
+use Rattle.settlement.specs.Posting.{Posting}
 use Rattle.book.specs.declared.months.MonthFigures.{MonthFigures}
 use Rattle.standing.specs.Requests.{Request, entering}
-use Rattle.standing.specs.Standing.{entries_of}
-use Rattle.standing.specs.Worked.{Reply}
+use Rattle.standing.specs.Only.{entries_of, posting_at, postings_of}
 use Rattle.runs.specs.Runs.{Kept, turn, answers_to, kept_after, all_done}
-use Rattle.runs.specs.Told.{stands_told}
 use Rattle.audit.specs.Again.{Running, heard_anew}
-use Rattle.audit.specs.Only.{as_list, postings_told}
 
 and_regroup : (a b c : Bool) → ((a && b) && c) ≡ (a && (b && c))
 and_regroup true b c = refl
@@ -80,14 +78,12 @@ entries_more places i within =
     number = omega (arith, length-take i places)
 
 -- the posting of one hour more
-pub postings_more : (requests : List Request) (told : List Reply) (n : ℕ) →
-    postings_told requests told 0 n ++ as_list (stands_told n None requests told) ≡ postings_told requests told 0 (n + 1)
-postings_more requests told n =
-    sym (ap (postings_told requests told 0) (add-one n) ∙ last 0 n ∙ ap (λ h. postings_told requests told 0 n ++ as_list (stands_told h None requests told)) (omega arith))
+pub postings_more : (posted : ℕ → Option Posting) (n : ℕ) → postings_of posted 0 n ++ posting_at (posted n) ≡ postings_of posted 0 (n + 1)
+postings_more posted n = sym (ap (postings_of posted 0) (add-one n) ∙ last 0 n ∙ ap (λ h. postings_of posted 0 n ++ posting_at (posted h)) (omega arith))
   where
-    last : (hour n : ℕ) → postings_told requests told hour (suc n) ≡ postings_told requests told hour n ++ as_list (stands_told (hour + n) None requests told)
-    last hour zero = let here : hour ≡ hour + 0 = omega arith in append-nil (as_list (stands_told hour None requests told)) ∙ ap (λ h. as_list (stands_told h None requests told)) here
+    last : (hour n : ℕ) → postings_of posted hour (suc n) ≡ postings_of posted hour n ++ posting_at (posted (hour + n))
+    last hour zero = let here : hour ≡ hour + 0 = omega arith in append-nil (posting_at (posted hour)) ∙ ap (λ h. posting_at (posted h)) here
     last hour (suc n) =
         let next : hour + 1 + n ≡ hour + suc n = omega arith in
-        ap (λ rest. as_list (stands_told hour None requests told) ++ rest) (last (hour + 1) n ∙ ap (λ h. postings_told requests told (hour + 1) n ++ as_list (stands_told h None requests told)) next)
-        ∙ sym (append_assoc (as_list (stands_told hour None requests told)) (postings_told requests told (hour + 1) n) (as_list (stands_told (hour + suc n) None requests told)))
+        ap (λ rest. posting_at (posted hour) ++ rest) (last (hour + 1) n ∙ ap (λ h. postings_of posted (hour + 1) n ++ posting_at (posted h)) next)
+        ∙ sym (append_assoc (posting_at (posted hour)) (postings_of posted (hour + 1) n) (posting_at (posted (hour + suc n))))

@@ -1,135 +1,126 @@
 -- Three books that were run: what the first leaves standing is what the third is asked, and the law holds of them. Assumes nothing.
-use Rattle.std.proofs.Common.{◌≡◌, ℕ, zero, suc, ◌+◌, Bool, true, false, cond, ◌&&◌, eqb, List, [], ◌∷◌, ◌++◌, map, ℤ, Some, None, Option, sym, refl, ap, ◌∙◌, subst}
+use Rattle.std.proofs.Common.{◌≡◌, ℕ, Bool, true, false, ◌&&◌, eqb, List, [], ◌∷◌, map, length, ℤ, None, sym, refl, ap, ◌∙◌, subst}
 use Rattle.std.specs.List.{list_all}
-use Rattle.forms.specs.Meaning.{Meaning, Keeps}
-use Rattle.settlement.specs.Sums.{sum_to_ℤ}
-use Rattle.settlement.proofs.Sums.{sum_to_ℤ_same}
+use Rattle.std.proofs.lemmas.Bool.{and_parts, eqb-true}
+use Rattle.forms.specs.Meaning.{Keeps}
+use Rattle.settlement.specs.declared.agents.Agent.{Agent}
+use Rattle.settlement.specs.declared.states.State.TheVariants.{Open}
 use Rattle.book.specs.declared.months.MonthFigures.{MonthFigures}
 use Rattle.book.specs.declared.statements.Statement.{Statement}
-use Rattle.book.specs.Calls.{open_fault}
 use Rattle.book.specs.Memory.{Memory}
-use Rattle.book.specs.Months.{hours_of}
-use Rattle.standing.specs.Law.{Book, Ran, Settled, is_done}
-use Rattle.standing.specs.Requests.{Opening, Posting, Request, posting, unread, withdrawal, entering, cancelling, closing, statement, without_contracts, told_without}
-use Rattle.standing.specs.Standing.{State, open', closed, is_closed, Standing, nothing_stands, after, entries_of, posting_at, postings_of, closing_of, only_standing}
-use Rattle.standing.specs.Worked.{Reply, residue_from, residue_after}
+use Rattle.book.specs.Opening.{open_fault}
+use Rattle.standing.specs.Law.{Book, Ran}
+use Rattle.standing.specs.Replies.{Reply, is_done}
+use Rattle.standing.specs.Requests.{Request, told_without}
+use Rattle.standing.specs.Worked.{residue_after}
 use Rattle.standing.proofs.Lawful.{settled}
+use Rattle.standing.proofs.Sound.{Opened}
 use Rattle.runs.specs.Reading.{opening_of, Answer, reply_of}
-use Rattle.runs.specs.Runs.{kept_of, answers_to, all_done, balance_at, statements_in}
-use Rattle.runs.specs.Told.{was_accepted, stands_left, stands_told, Postable, AllMeasured}
-use Rattle.runs.proofs.Books.{is_opened, kept_holds, kept_opens, kept_emptied, kept_told, kept_ran}
-use Rattle.runs.proofs.Run.{run_measured, as_request, run_stands}
-use Rattle.audit.specs.Audits.{book_of, told_again}
-use Rattle.audit.specs.Only.{as_list, postings_told, closing_if, only_told, residue_in, StandsMeasured}
-use Rattle.audit.specs.Settlings.{begun, ended}
+use Rattle.runs.specs.Runs.{Kept, kept_of, answers_to, kept_after, all_done, statements_in, statements_fault, together}
+use Rattle.runs.proofs.Books.{heard_by, told_by, is_opened, kept_holds, kept_opens, kept_emptied, kept_states, kept_ran}
+use Rattle.audit.specs.declared.audits.Report.{Report}
+use Rattle.audit.specs.Audits.{book_of, AllRan, SettledIn}
+use Rattle.audit.specs.Cases.{Case, opening_in, standing_in, again, begun, ended, answered}
+use Rattle.audit.specs.Found.{Found, places_fit}
 
 -- all that was answered was done
 pub done_told : (answers : List Answer) → all_done answers ≡ list_all is_done (map reply_of answers)
 done_told [] = refl
 done_told (a ∷ answers) = ap (λ b. is_done (reply_of a) && b) (done_told answers)
 
--- books that were told the same, with the same statements and balances
-pub book_same : {told told' : List Reply} {statements statements' : List Statement} {balances balances' : ℤ} → told ≡ told' → statements ≡ statements' → balances ≡ balances' →
-    book_of told statements balances ≡ book_of told' statements' balances'
-book_same p q r = λ t. book_of (p t) (q t) (r t)
+-- how many places there are, where they fit
+pub record Long (calls agents : ℕ) (found : Found) : Type 0 where
+  pub answers : length found.answers ≡ calls
+  pub answers_without : length found.answers_without ≡ calls
+  pub statements : length found.statements ≡ agents
+  pub statements_without : length found.statements_without ≡ agents
+  pub statements_again : length found.statements_again ≡ agents
 
--- ---- what is told of an hour
+pub places_long : (calls agents : ℕ) (found : Found) → places_fit calls agents found ≡ true → Long calls agents found
+places_long calls agents found fit =
+    let one = and_parts (eqb (length found.answers) calls) _ fit in
+    let two = and_parts (eqb (length found.answers_without) calls) _ one.1 in
+    let three = and_parts (eqb (length found.statements) agents) _ two.1 in
+    let four = and_parts (eqb (length found.statements_without) agents) _ three.1 in
+    record {
+      answers = eqb-true _ _ one.0;
+      answers_without = eqb-true _ _ two.0;
+      statements = eqb-true _ _ three.0;
+      statements_without = eqb-true _ _ four.0;
+      statements_again = eqb-true _ _ four.1;
+    }
 
--- what an accepted request leaves is measured, if it is and what stood was
-left_measured : (hour : ℕ) (before : Option Request) (r : Request) → StandsMeasured before → Postable r → StandsMeasured (stands_left hour before r)
-left_measured hour before (posting h p) stood is = elim (eqb h hour) as (λ same. StandsMeasured (cond same (Some (posting h p)) before)) [ true ↦ is | false ↦ stood ]
-left_measured hour before (unread fault) stood is = stood
-left_measured hour before (withdrawal h) stood is = elim (eqb h hour) as (λ same. StandsMeasured (cond same None before)) [ true ↦ tt | false ↦ stood ]
-left_measured hour before (entering number c) stood is = stood
-left_measured hour before (cancelling number) stood is = stood
-left_measured hour before closing stood is = stood
-left_measured hour before (statement agent) stood is = stood
-
--- and so is what stands after all
-stands_measured : (hour : ℕ) (before : Option Request) (requests : List Request) (told : List Reply) → StandsMeasured before → AllMeasured requests told →
-    StandsMeasured (stands_told hour before requests told)
-stands_measured hour before [] told stood all = stood
-stands_measured hour before (r ∷ rs) [] stood all = stood
-stands_measured hour before (r ∷ rs) (q ∷ told) stood all = stands_measured hour (cond (was_accepted q) (stands_left hour before r) before) rs told (next (was_accepted q) refl) all.1
-  where
-    next : (b : Bool) → was_accepted q ≡ b → StandsMeasured (cond b (stands_left hour before r) before)
-    next true is = left_measured hour before r stood (all.0 is)
-    next false is = stood
-
--- what stands, as a list of requests
-as_posting : (hour : ℕ) (p : Option Posting) → as_list (as_request hour p) ≡ posting_at hour p
-as_posting hour None = refl
-as_posting hour (Some p) = refl
-
--- its residue
-residue_as : (hour : ℕ) (p : Option Posting) → residue_in (as_request hour p) ≡ residue_from p
-residue_as hour None = refl
-residue_as hour (Some p) = refl
-
--- and the closing
-closing_as : (state : State) → closing_if (is_closed state) ≡ closing_of state
-closing_as open' = refl
-closing_as closed = refl
-
-module _ (form : Meaning) (keeps : Keeps form) (f : MonthFigures) (m : Memory) (opens : open_fault f m ≡ None) where
-  abbrev o : Opening
-  o = opening_of f.days f.weekday m.agents
+-- a case that is opened in memory of its agents
+module _ (case : Case) (keeps : Keeps case.form) (m : Memory) (agents : m.agents ≡ case.agents) (opens : open_fault case.figures m ≡ None) where
+  -- its opening
+  opened : Opened (opening_in case)
+  opened = subst (λ agents. Opened (opening_of case.figures agents)) agents (is_opened case.figures m opens)
 
   -- ---- memory from one book to the next
 
-  -- memory at the end of a run can be opened anew
-  pub opens_after : (contracts : Bool) (requests : List Request) (m' : Memory) → m' ≡ (ended contracts form f requests m).memory → open_fault f m' ≡ None
-  opens_after contracts requests m' is = ap (open_fault f) is ∙ kept_opens form keeps f m opens contracts requests
+  module _ (contracts : Bool) (requests : List Request) where
+    -- as a run of these requests leaves it
+    abbrev left : Kept
+    left = ended contracts (record case { requests = requests }) m
 
-  -- and is opened to the same
-  pub begun_after : (contracts : Bool) (requests : List Request) (m' : Memory) → m' ≡ (ended contracts form f requests m).memory → begun m' ≡ begun m
-  begun_after contracts requests m' is = ap begun is ∙ ap (kept_of open') (kept_emptied form keeps f m opens contracts requests)
+    -- it can be opened anew
+    pub opens_after : (m' : Memory) → m' ≡ left.memory → open_fault case.figures m' ≡ None
+    opens_after m' is = ap (open_fault case.figures) is ∙ kept_opens case.form keeps case.figures m opens contracts requests
 
-  module _ (requests : List Request) where
-    abbrev whole : Standing
-    whole = after form o requests
+    -- and is opened to the same
+    pub begun_after : (m' : Memory) → m' ≡ left.memory → begun m' ≡ begun m
+    begun_after m' is = ap begun is ∙ ap (kept_of Open) (kept_emptied case.form keeps case.figures m opens contracts requests)
 
-    -- what the first book is told
-    abbrev told : List Reply
-    told = map reply_of (answers_to true form f requests (begun m))
+    -- so another run ends as if it had begun in what was lent
+    pub ended_after : (m' : Memory) → m' ≡ left.memory → (by : Bool) (others : List Request) →
+        ended by (record case { requests = others }) m' ≡ ended by (record case { requests = others }) m
+    ended_after m' is by others = ap (kept_after by case.form case.figures others) (begun_after m' is)
 
-    -- the answers tell what stands at each hour
-    stands_is : (hour : ℕ) → stands_told hour None requests told ≡ as_request hour (whole.posted hour)
-    stands_is hour = ap (stands_told hour None requests) (kept_told form keeps f m opens true requests) ∙ run_stands form o hour nothing_stands requests
+    -- and is answered so
+    pub answered_after : (m' : Memory) → m' ≡ left.memory → (by : Bool) (others : List Request) →
+        answered by (record case { requests = others }) m' ≡ answered by (record case { requests = others }) m
+    answered_after m' is by others = ap (answers_to by case.form case.figures others) (begun_after m' is)
 
-    pub told_measured : (hour : ℕ) → StandsMeasured (stands_told hour None requests told)
-    told_measured hour =
-        stands_measured hour None requests told tt
-        (subst (AllMeasured requests) (sym (kept_told form keeps f m opens true requests)) (run_measured form o (is_opened f m opens) nothing_stands requests))
+    -- its agents are the same
+    pub agents_after : (m' : Memory) → m' ≡ left.memory → m'.agents ≡ case.agents
+    agents_after m' is = ap (λ (x : Memory). x.agents) is ∙ (kept_holds case.form keeps case.figures m opens contracts requests).memory.agents ∙ agents
 
-    -- and the residue
-    pub residue_is : sum_to_ℤ (hours_of f.days) (λ hour. residue_in (stands_told hour None requests told)) ≡ residue_after o whole
-    residue_is = sum_to_ℤ_same (hours_of f.days) _ _ (λ hour below. ap residue_in (stands_is hour) ∙ residue_as hour (whole.posted hour))
+    -- and it gives every statement, where there is a place for each
+    pub states_after : (g : MonthFigures) (k : Kept) → g ≡ case.figures → k ≡ left → (places : ℕ) → places ≡ length m.agents → statements_fault case.form g places k.memory ≡ None
+    states_after g k same is places long =
+        (λ t. statements_fault case.form (same t) places (is t).memory) ∙ kept_states case.form keeps case.figures m opens contracts requests places long
 
-    postings_are : (hour n : ℕ) → postings_told requests told hour n ≡ postings_of whole.posted hour n
-    postings_are hour zero = refl
-    postings_are hour (suc n) = λ t. (ap as_list (stands_is hour) ∙ as_posting hour (whole.posted hour)) t ++ postings_are (hour + 1) n t
+    -- the book was run as the rules say
+    ran : (told : List Reply) (statements : List Statement) (balances : ℤ) → told ≡ told_by contracts requests (map reply_of (answers_to contracts case.form case.figures requests (begun m))) →
+        statements ≡ statements_in case.figures left.memory → balances ≡ together (statements_in case.figures left.memory) →
+        Ran case.form (opening_in case) (heard_by contracts requests) (book_of told statements balances)
+    ran told statements balances said stated summed =
+        subst (λ (x : List Agent × Book). Ran case.form (opening_of case.figures x.0) (heard_by contracts requests) x.1)
+        (λ t. (agents t, book_of (sym said t) (sym stated t) (sym summed t)))
+        (kept_ran case.form keeps case.figures m opens contracts requests)
 
-    -- so the third book is asked for only what stands
-    pub only_is : only_told (hours_of f.days) (ended true form f requests m).memory.contracts requests told (is_closed (ended true form f requests m).state) ≡ only_standing o whole
-    only_is =
-        let holds = kept_holds form keeps f m opens true requests in
-        λ t. entries_of 1 (holds.memory.contracts t) ++ (postings_are 0 (hours_of f.days) t ++ (ap (λ state. closing_if (is_closed state)) holds.state ∙ closing_as whole.state) t)
+  -- ---- what the first leaves
 
-    -- ---- the law
+  pub left_places : (ended true case m).memory.contracts ≡ (standing_in case).places
+  left_places =
+      (kept_holds case.form keeps case.figures m opens true case.requests).memory.contracts
+      ∙ ap (λ agents. (standing_in (record case { agents = agents })).places) agents
 
-    -- all three were run as the rules say
-    abbrev book : (contracts : Bool) → List Request → List Reply → Book
-    book contracts rs told =
-        let statements = statements_in f (ended contracts form f rs m).memory in
-        book_of told statements (sum_to_ℤ f.agents (balance_at statements))
+  pub left_state : (ended true case m).state ≡ (standing_in case).state
+  left_state =
+      (kept_holds case.form keeps case.figures m opens true case.requests).state
+      ∙ ap (λ agents. (standing_in (record case { agents = agents })).state) agents
 
-    pub law_holds : (first second third : Book) (residue : ℤ) → first ≡ book true requests told →
-        second ≡ book false requests (told_without requests (map reply_of (answers_to false form f requests (begun m)))) →
-        third ≡ book true (only_standing o whole) (told_again form f requests m) → residue ≡ residue_after o whole → Settled form o requests first second third residue
-    law_holds first second third residue one two three left =
-        settled form keeps o (is_opened f m opens) requests first second third residue
-        (subst (Ran form o requests) (sym one) (kept_ran form keeps f m opens true requests))
-        (subst (Ran form o (without_contracts requests)) (sym two) (kept_ran form keeps f m opens false requests))
-        (subst (Ran form o (only_standing o whole)) (sym three) (kept_ran form keeps f m opens true (only_standing o whole)))
-        left
+  -- ---- the law
+
+  pub law_holds : (found : Found) (report : Report) → AllRan case m found →
+      report.balances ≡ together (statements_in case.figures (ended true case m).memory) →
+      report.balances_without ≡ together (statements_in case.figures (ended false case m).memory) →
+      report.balances_again ≡ together (statements_in case.figures (ended true (again case) m).memory) →
+      report.residue ≡ residue_after (opening_in case) (standing_in case) → SettledIn case m found report
+  law_holds found report all one two three residue =
+      settled case.form keeps (opening_in case) opened case.requests _ _ _ _
+      (ran true case.requests _ _ _ (ap (map reply_of) all.first.told) all.first.stated one)
+      (ran false case.requests _ _ _ (ap (λ answers. told_without case.requests (map reply_of answers)) all.second.told) all.second.stated two)
+      (ran true (again case).requests _ _ _ refl all.third.stated three)
+      residue

@@ -1,5 +1,4 @@
 pub mod Anew
 pub mod Stands
-pub mod Settlings
 pub mod Audited
-pub mod Parties
+pub mod Agreed

@@ -1,63 +1,38 @@
--- What an audit is lent, when it is refused, and the books that it settles. Assumes nothing.
-use Rattle.std.specs.Prelude.{◌≡◌, ℕ, Bool, true, not, ◌&&◌, List, [], ◌∷◌, map, length, ℤ, Option, ◌==◌}
-use Rattle.forms.specs.declared.Contract.{Contract}
-use Rattle.forms.specs.Meaning.{Meaning}
-use Rattle.settlement.specs.declared.agents.Agent.{Agent}
+-- When an audit is refused, that its books were run on memory, and that the law holds of them. Assumes nothing.
+use Rattle.std.specs.Prelude.{◌≡◌, ℕ, Bool, true, false, not, List, [], ◌∷◌, map, length, ℤ, Option}
 use Rattle.settlement.specs.declared.faults.BookFault.{BookFault}
-use Rattle.settlement.specs.declared.faults.BookFault.TheVariants.{WrongSize}
+use Rattle.settlement.specs.declared.faults.BookFault.TheVariants.{WrongSize, OutsideBook}
 use Rattle.settlement.specs.Faults.{met_if, first_met}
 use Rattle.book.specs.declared.months.MonthFigures.{MonthFigures}
 use Rattle.book.specs.declared.statements.Statement.{Statement}
-use Rattle.book.specs.Calls.{open_fault}
 use Rattle.book.specs.Memory.{Memory}
-use Rattle.standing.specs.Law.{Book}
-use Rattle.standing.specs.Requests.{Opening, Request, told_without}
-use Rattle.standing.specs.Standing.{after, only_standing}
-use Rattle.standing.specs.Worked.{Reply}
-use Rattle.runs.specs.Reading.{opening_of, Answer, reply_of, worked_in}
-use Rattle.runs.specs.Runs.{answers_to}
-use Rattle.audit.specs.declared.audits.Findings.{Findings}
+use Rattle.book.specs.Months.{size_known}
+use Rattle.book.specs.Opening.{open_fault}
+use Rattle.standing.specs.Law.{Book, Settled}
+use Rattle.standing.specs.Requests.{told_without}
+use Rattle.standing.specs.Replies.{Reply}
+use Rattle.runs.specs.Reading.{Answer, reply_of, worked_in}
+use Rattle.runs.specs.Runs.{statements_in}
 use Rattle.audit.specs.declared.audits.Report.{Report}
-use Rattle.audit.specs.Settlings.{begun}
+use Rattle.audit.specs.Cases.{Case, opening_in, again, ended, answered}
+use Rattle.audit.specs.Found.{Found, places_fit}
 
--- all that a host lends: the memory of one book, a place for each answer of the two books that hear calls, and one for each agent's statement in
--- all three
-pub record Lent : Type 0 where
-  pub memory : Memory
-  pub answers : List Answer
-  pub answers_without : List Answer
-  pub statements : List Statement
-  pub statements_without : List Statement
-  pub statements_again : List Statement
+-- the faults of an audit of so many calls, in the order of an opening's: agents or days, then a place for each answer and each statement, and the
+-- memory's size, then the weekday or an agent's figures
+abbrev pub audit_fault : MonthFigures → (calls : ℕ) → Memory → Found → Option BookFault
+audit_fault f calls m found =
+    first_met (met_if (not (size_known f)) OutsideBook ∷ met_if (not (places_fit calls (length m.agents) found)) WrongSize ∷ open_fault f m ∷ [])
 
-abbrev pub lent_with : Memory → Findings → Lent
-lent_with memory found = record {
-  memory = memory;
-  answers = found.answers.now;
-  answers_without = found.answers_without.now;
-  statements = found.statements.now;
-  statements_without = found.statements_without.now;
-  statements_again = found.statements_again.now;
-}
+-- a book was run on memory: its answers are those that its calls were answered one after another, and its statements those of memory at the end
+pub record RanOnMemory (contracts : Bool) (case : Case) (m : Memory) (answers : List Answer) (statements : List Statement) : Type 0 where
+  pub told : answers ≡ answered contracts case m
+  pub stated : statements ≡ statements_in case.figures (ended contracts case m).memory
 
--- a place for each answer, and one for each statement
-abbrev pub places_fit : (calls agents : ℕ) → Findings → Bool
-places_fit calls agents found =
-    length found.answers.now == calls && (length found.answers_without.now == calls
-    && (length found.statements.now == agents && (length found.statements_without.now == agents && length found.statements_again.now == agents)))
-
--- the findings lend the same places as before
-abbrev pub SamePlaces : (before after : Findings) → Type 0
-SamePlaces before after =
-    (after.answers.ghost_name ≡ before.answers.ghost_name)
-    × (after.answers_without.ghost_name ≡ before.answers_without.ghost_name)
-    × (after.statements.ghost_name ≡ before.statements.ghost_name)
-    × (after.statements_without.ghost_name ≡ before.statements_without.ghost_name)
-    × (after.statements_again.ghost_name ≡ before.statements_again.ghost_name)
-
--- the faults of an audit of so many calls: first that there is not a place for each answer and each statement, then those of the opening
-abbrev pub audit_fault : MonthFigures → (calls : ℕ) → Memory → Findings → Option BookFault
-audit_fault f calls memory found = first_met (met_if (not (places_fit calls (length memory.agents) found)) WrongSize ∷ open_fault f memory ∷ [])
+-- all three were: the third on what stands in the first
+pub record AllRan (case : Case) (m : Memory) (found : Found) : Type 0 where
+  pub first : RanOnMemory true case m found.answers found.statements
+  pub second : RanOnMemory false case m found.answers_without found.statements_without
+  pub third : RanOnMemory true (again case) m (answered true (again case) m) found.statements_again
 
 -- ---- the books
 
@@ -65,30 +40,22 @@ audit_fault f calls memory found = first_met (met_if (not (places_fit calls (len
 abbrev pub book_of : List Reply → List Statement → ℤ → Book
 book_of told statements balances = record { told = told; statements = map worked_in statements; balances = balances }
 
--- what all three are opened with
-abbrev pub opening_in : MonthFigures → List Agent → Opening
-opening_in f agents = opening_of f.days f.weekday agents
-
--- the contract places as they stand after a list of requests
-abbrev pub places_after : Meaning → MonthFigures → List Agent → List Request → List (Option Contract)
-places_after form f agents requests = (after form (opening_in f agents) requests).places
-
--- what stands at the end, as requests for the third book
-abbrev pub asked_again : Meaning → MonthFigures → List Agent → List Request → List Request
-asked_again form f agents requests = only_standing (opening_in f agents) (after form (opening_in f agents) requests)
-
--- what the third book is told
-abbrev pub told_again : Meaning → MonthFigures → List Request → Memory → List Reply
-told_again form f requests m = map reply_of (answers_to true form f (asked_again form f m.agents requests) (begun m))
-
--- the first book, as an audit finds it: what each call was answered, every agent's statement, and all balances together
-abbrev pub first_book : Findings → Report → Book
-first_book found report = book_of (map reply_of found.answers.now) found.statements.now report.balances
+-- the first, as an audit finds it: what each call was answered, every agent's statement, and all balances together
+abbrev pub first_book : Found → Report → Book
+first_book found report = book_of (map reply_of found.answers) found.statements report.balances
 
 -- the second: what each call was answered that is not about contracts
-abbrev pub second_book : List Request → Findings → Report → Book
-second_book requests found report = book_of (told_without requests (map reply_of found.answers_without.now)) found.statements_without.now report.balances_without
+abbrev pub second_book : Case → Found → Report → Book
+second_book case found report =
+    book_of (told_without case.requests (map reply_of found.answers_without)) found.statements_without report.balances_without
 
--- the third, which was told what its run gives; `repeated` of the report says whether all of that was done
-abbrev pub third_book : Meaning → MonthFigures → List Request → Memory → Findings → Report → Book
-third_book form f requests m found report = book_of (told_again form f requests m) found.statements_again.now report.balances_again
+-- the third, which was told what its run gives
+abbrev pub third_book : Case → Memory → Found → Report → Book
+third_book case m found report = book_of (map reply_of (answered true (again case) m)) found.statements_again report.balances_again
+
+-- the law holds of all three
+abbrev pub SettledIn : Case → Memory → Found → Report → Type 0
+SettledIn case m found report =
+    Settled case.form (opening_in case) case.requests
+    (first_book found report) (second_book case found report) (third_book case m found report)
+    report.residue

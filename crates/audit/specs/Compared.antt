@@ -7,38 +7,38 @@ use Rattle.forms.specs.declared.Contract.{Contract}
 use Rattle.tally.specs.declared.money.Money.{Money}
 use Rattle.settlement.specs.Faults.{number_of, place_of}
 use Rattle.book.specs.declared.statements.Statement.{Statement}
-use Rattle.standing.specs.Law.{is_done}
-use Rattle.standing.specs.Requests.{about_contracts}
-use Rattle.standing.specs.Standing.{party_to}
-use Rattle.standing.specs.Worked.{Reply, accepted, stated, refused, skipped}
+use Rattle.standing.specs.Requests.{about_contracts, without_contracts}
+use Rattle.standing.specs.Parties.{is_stranger}
+use Rattle.standing.specs.Replies.{manner_of}
+use Rattle.standing.specs.Turns.{Manner, was_done, was_refused, was_skipped}
 use Rattle.runs.specs.declared.calls.Call.{Call}
-use Rattle.audit.specs.declared.comparisons.Comparison.{Comparison}
 use Rattle.runs.specs.Reading.{request_of, Answer, reply_of}
+use Rattle.audit.specs.declared.audits.Report.{Report}
+use Rattle.audit.specs.declared.comparisons.Comparison.{Comparison}
+use Rattle.audit.specs.Cases.{Case, standing_in}
+use Rattle.audit.specs.Found.{Found}
 
--- two requests were answered alike: both done, both refused with the same number and place, or both skipped
-abbrev pub same_manner : Reply → Reply → Bool
-same_manner accepted other = is_done other
-same_manner (stated w) other = is_done other
-same_manner (refused fault) accepted = false
-same_manner (refused fault) (stated w) = false
-same_manner (refused fault) (refused other) = number_of fault == number_of other && place_of fault == place_of other
-same_manner (refused fault) skipped = false
-same_manner skipped accepted = false
-same_manner skipped (stated w) = false
-same_manner skipped (refused other) = false
-same_manner skipped skipped = true
+-- two calls were answered alike: both done, both refused with the same number and place, or both skipped
+abbrev pub same_manner : Manner → Manner → Bool
+same_manner was_done was_done = true
+same_manner (was_refused fault) (was_refused other) = number_of fault == number_of other && place_of fault == place_of other
+same_manner was_skipped was_skipped = true
+same_manner _ _ = false
 
--- how many calls both books heard
+abbrev pub same_answer : Answer → Answer → Bool
+same_answer one other = same_manner (manner_of (reply_of one)) (manner_of (reply_of other))
+
+-- whether both books heard a call
+abbrev pub heard_by_both : Call → Bool
+heard_by_both call = not (about_contracts (request_of call))
+
+-- how many calls both heard, and how many of those they answered alike
 abbrev pub heard_in : List Call → ℕ
-heard_in calls = length (filter (λ c. not (about_contracts (request_of c))) calls)
+heard_in calls = length (filter heard_by_both calls)
 
--- a call that both heard, and that they answered alike
-abbrev pub heard_alike : Call × (Answer × Answer) → Bool
-heard_alike call = not (about_contracts (request_of call.0)) && same_manner (reply_of call.1.0) (reply_of call.1.1)
-
--- how many calls both heard and answered alike
 abbrev pub alike_in : List Call → (answers without : List Answer) → ℕ
-alike_in calls answers without = length (filter heard_alike (zip calls (zip answers without)))
+alike_in calls answers without =
+    length (filter (λ call. heard_by_both call.0 && same_answer call.1.0 call.1.1) (zip calls (zip answers without)))
 
 -- two whole numbers are equal, as 64 bits hold them
 abbrev pub same_number : ℤ → ℤ → Bool
@@ -59,24 +59,28 @@ same_statement x y =
 abbrev pub same_in : (one other : List Statement) → ℕ
 same_in one other = length (filter (λ pair. same_statement pair.0 pair.1) (zip one other))
 
--- whether an agent, counted from 0, is party to no standing contract
-abbrev pub is_stranger : List (Option Contract) → ℕ → Bool
-is_stranger places i = party_to i places == 0
-
--- how many of so many agents are
+-- how many of so many agents are party to no standing contract, and how many of those have the same statement in two books
 abbrev pub strangers_in : (count : ℕ) → List (Option Contract) → ℕ
-strangers_in count places = length (filter (is_stranger places) (range_with_len 0 count))
+strangers_in count places = length (filter (λ i. is_stranger i places) (range_with_len 0 count))
 
--- and how many of those have the same statement in two books
 abbrev pub strangers_same : (count : ℕ) → List (Option Contract) → (one other : List Statement) → ℕ
 strangers_same count places one other =
-    length (filter (λ agent. is_stranger places agent.0 && same_statement agent.1.0 agent.1.1) (zip (range_with_len 0 count) (zip one other)))
+    length (filter (λ agent. is_stranger agent.0 places && same_statement agent.1.0 agent.1.1) (zip (range_with_len 0 count) (zip one other)))
 
--- how an audit of so many agents compares the calls, of what the first two books answered, of the contracts standing in the first, and of the
--- statements of all three
-pub record Compared (count : ℕ) (calls : List Call) (answers without : List Answer) (places : List (Option Contract)) (first second third : List Statement) (found : Comparison) : Type 0 where
-  pub heard : found.heard ≡ heard_in calls
-  pub alike : found.alike ≡ alike_in calls answers without
-  pub strangers : found.strangers ≡ strangers_in count places
-  pub strangers_same : found.strangers_same ≡ strangers_same count places first second
-  pub same : found.same ≡ same_in first third
+-- how the answers and statements that were found of so many agents and these calls compare, over the contracts standing in the first book
+pub record Compared (count : ℕ) (calls : List Call) (places : List (Option Contract)) (found : Found) (comparison : Comparison) : Type 0 where
+  pub heard : comparison.heard ≡ heard_in calls
+  pub alike : comparison.alike ≡ alike_in calls found.answers found.answers_without
+  pub strangers : comparison.strangers ≡ strangers_in count places
+  pub strangers_same : comparison.strangers_same ≡ strangers_same count places found.statements found.statements_without
+  pub same : comparison.same ≡ same_in found.statements found.statements_again
+
+-- what they come to: all that both books heard was answered alike, all strangers have the same statement in the first two, all agents have the
+-- same statement in the first and the third, and the third did all that it was asked
+pub record Agrees (case : Case) (report : Report) : Type 0 where
+  pub heard : report.comparison.heard ≡ length (without_contracts case.requests)
+  pub alike : report.comparison.alike ≡ report.comparison.heard
+  pub strangers : report.comparison.strangers ≡ strangers_in case.figures.agents (standing_in case).places
+  pub strangers_same : report.comparison.strangers_same ≡ report.comparison.strangers
+  pub same : report.comparison.same ≡ case.figures.agents
+  pub repeated : report.repeated ≡ true

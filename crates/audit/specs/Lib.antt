@@ -1,5 +1,7 @@
-pub mod Only
-pub mod Again
+pub mod Cases
+pub mod Reading
 pub mod Settlings
-pub mod Audits
+pub mod Again
+pub mod Found
 pub mod Compared
+pub mod Audits

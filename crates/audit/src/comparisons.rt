@@ -1,9 +1,10 @@
 //! What the audit compares: answers of the first two books, and statements of all three.
 ghost use Rattle.std.specs.Prelude.{◌≡◌, ◌<◌, ◌≤◌};
-ghost use Rattle.standing.specs.Standing.{is_party};
-ghost use Rattle.runs.specs.Reading.{reply_of};
-ghost use Rattle.audit.specs.Compared.{same_manner, heard_in, alike_in, same_lines, same_statement, same_in, is_stranger, strangers_in, strangers_same, Compared};
+ghost use Rattle.standing.specs.Parties.{is_party, is_stranger};
+ghost use Rattle.audit.specs.Compared.{same_answer, heard_in, alike_in, same_lines, same_statement, same_in, strangers_in, strangers_same, Compared};
+ghost use Rattle.audit.specs.Found.{found_in};
 
+use crate::findings::Findings;
 use book::Statement;
 use forms::Contract;
 use runs::{Answer, Call, Told, is_done};
@@ -24,7 +25,7 @@ pub struct Comparison {
 
 /// Whether two calls were answered alike: both done, both refused with the same number and place, or both skipped.
 pub fn is_alike(one: &Answer, other: &Answer) -> bool
-    ensures { result ≡ same_manner (reply_of one.now) (reply_of other.now) }
+    ensures { result ≡ same_answer one.now other.now }
 {
     match one {
         Ok(Told::Accepted | Told::Stated(_)) => is_done(other),
@@ -73,7 +74,7 @@ fn is_party(index: u32, place: &Option<Contract>) -> bool
 
 /// Whether the agent at place `index`, counted from 0, is party to no standing contract.
 pub fn is_stranger(index: u32, places: &[Option<Contract>]) -> bool
-    ensures { result ≡ is_stranger places.now index }
+    ensures { result ≡ is_stranger index places.now }
 {
     places.iter().all(|place| !is_party(index, place))
 }
@@ -132,22 +133,22 @@ fn count_strangers_same(
         .count()
 }
 
-/// Compares the answers of the first two books, over the contracts standing in the first, and the statements of all three.
+/// Compares what was found of so many agents: the answers of the first two books, over the contracts standing in the first, and the statements of
+/// all three.
 pub(crate) fn compare(
-    calls: &[Call],
-    answers: &[Answer],
-    answers_without: &[Answer],
     agents: u32,
+    calls: &[Call],
     places: &[Option<Contract>],
-    first: &[Statement],
-    second: &[Statement],
-    third: &[Statement],
+    found: &Findings<'_>,
 ) -> Comparison
-    ensures { Compared agents calls.now answers.now answers_without.now places.now first.now second.now third.now result }
+    ensures { Compared agents calls.now places.now (found_in found.now) result }
 {
+    let first = &*found.statements;
+    let second = &*found.statements_without;
+    let third = &*found.statements_again;
     Comparison {
         heard: count_heard(calls),
-        alike: count_alike(calls, answers, answers_without),
+        alike: count_alike(calls, found.answers, found.answers_without),
         strangers: count_strangers(agents, places),
         strangers_same: count_strangers_same(agents, places, first, second),
         same: count_same(first, third),

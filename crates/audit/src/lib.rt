@@ -4,10 +4,12 @@
 
 mod again;
 mod audits;
+mod cases;
 mod comparisons;
-mod residues;
+mod findings;
 mod settling;
 
-pub use audits::{Findings, Report, audit};
+pub use audits::{Report, audit};
 pub use comparisons::{Comparison, is_alike, is_stranger};
-pub use runs::{Answer, Call, Month, Posting, Told, answer};
+pub use findings::Findings;
+pub use runs::{Answer, Call, Lent, Month, State, Told, answer};

@@ -1,143 +1,94 @@
 //! A book settled from its opening on: calls made, statements given, balances added up.
-ghost use Rattle.std.specs.Prelude.{◌≡◌, ◌≤◌, true, map, length, None};
-ghost use Rattle.settlement.specs.Sums.{sum_to_ℤ};
-ghost use Rattle.book.specs.Calls.{open_fault};
-ghost use Rattle.book.specs.Lent.{memory_seen, memory_with, SameLoan};
-ghost use Rattle.book.specs.Months.{hours_of};
-ghost use Rattle.standing.specs.Standing.{is_closed};
-ghost use Rattle.runs.specs.Reading.{request_of, reply_of, state_of, figures_in};
-ghost use Rattle.runs.specs.Runs.{kept_of, answers_to, all_done, balance_at, statements_in};
-ghost use Rattle.audit.specs.Only.{only_told};
-ghost use Rattle.audit.specs.Settlings.{begun, ended, Statable, Came};
+ghost use Rattle.std.specs.Prelude.{◌≡◌, true, length, None};
+ghost use Rattle.book.specs.Opening.{open_fault};
+ghost use Rattle.runs.specs.Lent.{memory_in, SameLoan};
+ghost use Rattle.runs.specs.Reading.{state_of, figures_in};
+ghost use Rattle.runs.specs.Runs.{kept_of, kept_in, all_done, statements_fault};
+ghost use Rattle.audit.specs.Cases.{again, begun, ended, answered};
+ghost use Rattle.audit.specs.Reading.{case_in};
+ghost use Rattle.audit.specs.Settlings.{Came, FirstLeft};
 
-use crate::again::{Rerun, repeat};
-use book::{Agent, Ledger, MonthFigures, Pool, Statement, View, open};
-use forms::{Contract, ContractForm};
-use runs::{Answer, Call, Month, balances_together, fill_statements, replay};
+use crate::again::{Left, Rerun};
+use crate::cases::Case;
+use book::{MonthFigures, Statement, open};
+use forms::ContractForm;
+use runs::{Answer, Lent, Month, State, balances_together, fill_statements, replay};
 
-/// What is audited: the figures that each book is opened with, the form, the agents, and the calls.
-#[derive(Drop)]
-pub(crate) struct Case<'a, F> {
-    pub(crate) figures: MonthFigures,
-    pub(crate) form: &'a F,
-    pub(crate) agents: &'a [Agent],
-    pub(crate) calls: &'a [Call],
-}
-
-/// What a book came to: whether its month is closed, and all balances together.
+/// What a book came to: whether its month is open or closed, and all balances together.
 #[derive(Clone, Copy)]
 pub(crate) struct Settlement {
-    pub(crate) closed: bool,
+    pub(crate) state: State,
     pub(crate) balances: i64,
 }
 
-/// What only what stands came to, and whether all of it was done.
-#[derive(Clone, Copy)]
-pub(crate) struct Repetition {
-    pub(crate) settlement: Settlement,
-    pub(crate) done: bool,
-}
-
 /// Opens a month that can be opened.
-fn begin(
-    figures: MonthFigures,
-    agents: &[Agent],
-    contracts: &mut [Option<Contract>],
-    ledger: &mut Ledger<'_>,
-) -> Month
-    requires { open_fault figures (memory_with agents.now contracts.old ledger.old) ≡ None }
-    ensures lent { SameLoan ledger.old ledger.new }
+fn begin(figures: MonthFigures, lent: &mut Lent<'_>) -> Month
+    requires { open_fault figures (memory_in lent.old) ≡ None }
+    ensures lent { SameLoan lent.old lent.new }
     ensures figures { figures_in result ≡ figures }
-    ensures kept { kept_of (state_of result) (memory_with agents.now contracts.new ledger.new) ≡ begun (memory_with agents.now contracts.old ledger.old) }
+    ensures kept { kept_in result lent.new ≡ begun (memory_in lent.old) }
 {
-    Month::Open(open(figures, agents, contracts, ledger).unwrap())
+    Month::Open(open(figures, lent.agents, lent.contracts, &mut lent.ledger).unwrap())
 }
 
 /// Writes every agent's statement to its place, adds up their balances, and gives the month up.
-fn conclude<F: ContractForm>(
+pub(crate) fn conclude<F: ContractForm>(
     month: Month,
     form: &F,
-    view: &View<'_, '_>,
+    lent: &Lent<'_>,
     statements: &mut [Statement],
 ) -> Settlement
-    requires { Statable (F.meaning form.now) (figures_in month) (memory_seen view.now) (length statements.old) }
-    ensures { Came (figures_in month) (kept_of (state_of month) (memory_seen view.now)) (memory_seen view.now) statements.new result }
+    requires { let places = length statements.old in
+        statements_fault (F.meaning form.now) (figures_in month) places (memory_in lent.now) ≡ None }
+    ensures { Came (figures_in month) (kept_of (state_of month) (memory_in lent.now)) statements.new result }
 {
-    fill_statements(&month, form, view, statements);
+    fill_statements(&month, form, lent, statements).unwrap();
     let balances = balances_together(statements);
-    let closed = month.is_closed();
+    let state = month.state();
     let _ = month.retire();
-    Settlement { closed, balances }
+    Settlement { state, balances }
 }
 
 /// Opens a month, makes the calls that the book hears of, and writes each answer and each agent's statement to its place.
 pub(crate) fn settle_calls<F: ContractForm>(
     hears_contracts: bool,
     case: &Case<'_, F>,
-    contracts: &mut [Option<Contract>],
-    ledger: &mut Ledger<'_>,
+    lent: &mut Lent<'_>,
     answers: &mut [Answer],
     statements: &mut [Statement],
 ) -> Settlement
-    requires opens { open_fault case.now.figures (memory_with case.now.agents.now contracts.old ledger.old) ≡ None }
+    requires opens { open_fault case.now.figures (memory_in lent.old) ≡ None }
     requires answers_long { length answers.old ≡ length case.now.calls.now }
-    requires statements_long { length statements.old ≡ length case.now.agents.now }
-    ensures lent { SameLoan ledger.old ledger.new }
-    ensures told { answers.new ≡ answers_to hears_contracts (F.meaning case.now.form.now) case.now.figures (map request_of case.now.calls.now) (begun (memory_with case.now.agents.now contracts.old ledger.old)) }
-    ensures came { Came case.now.figures (ended hears_contracts (F.meaning case.now.form.now) case.now.figures (map request_of case.now.calls.now) (memory_with case.now.agents.now contracts.old ledger.old)) (memory_with case.now.agents.now contracts.new ledger.new) statements.new result }
+    requires statements_long { length statements.old ≡ length lent.old.agents.now }
+    ensures lent { SameLoan lent.old lent.new }
+    ensures told { let case = case_in (F.meaning case.now.form.now) case.now in
+        answers.new ≡ answered hears_contracts case (memory_in lent.old) }
+    ensures came { let case = case_in (F.meaning case.now.form.now) case.now in
+        Came case.figures (ended hears_contracts case (memory_in lent.old)) statements.new result }
+    ensures memory { let case = case_in (F.meaning case.now.form.now) case.now in
+        memory_in lent.new ≡ (ended hears_contracts case (memory_in lent.old)).memory }
 {
-    let month = begin(case.figures, case.agents, contracts, ledger);
-    let month = replay(
-        hears_contracts,
-        month,
-        case.form,
-        case.calls,
-        case.agents,
-        contracts,
-        ledger,
-        answers,
-    );
-    let pool = Pool {
-        agents: case.agents,
-        contracts,
-    };
-    conclude(month, case.form, &ledger.view(&pool), statements)
+    let month = begin(case.figures, lent);
+    let month = replay(hears_contracts, month, case.form, case.calls, lent, answers);
+    conclude(month, case.form, lent, statements)
 }
 
-/// Opens a month, asks only for what stands, and writes each agent's statement to its place.
-pub(crate) fn settle_standing<F: ContractForm>(
+/// Opens a month, and asks it only for what stands in the first book.
+pub(crate) fn hear_standing<F: ContractForm>(
     case: &Case<'_, F>,
-    answers: &[Answer],
-    places: &[Option<Contract>],
-    closes: bool,
-    contracts: &mut [Option<Contract>],
-    ledger: &mut Ledger<'_>,
-    statements: &mut [Statement],
-) -> Repetition
-    requires opens { open_fault case.now.figures (memory_with case.now.agents.now contracts.old ledger.old) ≡ None }
-    requires few { length places.now ≤ 64 }
-    requires statements_long { length statements.old ≡ length case.now.agents.now }
-    ensures lent { SameLoan ledger.old ledger.new }
-    ensures done { result.done ≡ all_done (answers_to true (F.meaning case.now.form.now) case.now.figures (only_told (hours_of case.now.figures.days) places.now (map request_of case.now.calls.now) (map reply_of answers.now) closes) (begun (memory_with case.now.agents.now contracts.old ledger.old))) }
-    ensures came { Came case.now.figures (ended true (F.meaning case.now.form.now) case.now.figures (only_told (hours_of case.now.figures.days) places.now (map request_of case.now.calls.now) (map reply_of answers.now) closes) (memory_with case.now.agents.now contracts.old ledger.old)) (memory_with case.now.agents.now contracts.new ledger.new) statements.new result.settlement }
+    left: &Left<'_>,
+    lent: &mut Lent<'_>,
+) -> Rerun
+    requires opens { open_fault case.now.figures (memory_in lent.old) ≡ None }
+    requires left { FirstLeft (case_in (F.meaning case.now.form.now) case.now) left.now }
+    ensures lent { SameLoan lent.old lent.new }
+    ensures figures { figures_in result.month ≡ case.now.figures }
+    ensures kept { let case = case_in (F.meaning case.now.form.now) case.now in
+        kept_in result.month lent.new ≡ ended true (again case) (memory_in lent.old) }
+    ensures done { let case = case_in (F.meaning case.now.form.now) case.now in
+        result.done ≡ all_done (answered true (again case) (memory_in lent.old)) }
 {
-    let month = begin(case.figures, case.agents, contracts, ledger);
-    let Rerun { month, done } = repeat(
-        Rerun { month, done: true },
-        case.form,
-        24 * case.figures.days,
-        case.calls,
-        answers,
-        places,
-        closes,
-        case.agents,
-        contracts,
-        ledger,
-    );
-    let pool = Pool {
-        agents: case.agents,
-        contracts,
-    };
-    let settlement = conclude(month, case.form, &ledger.view(&pool), statements);
-    Repetition { settlement, done }
+    let month = begin(case.figures, lent);
+    let rerun = Rerun { month, done: true };
+    rerun.repeat(case, left, lent)
 }

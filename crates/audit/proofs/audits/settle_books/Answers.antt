@@ -1,152 +1,223 @@
-use Rattle.std.proofs.Common.{◌≡◌, true, false, List, map, None, sym, refl, ap, ◌∙◌, subst, rules, w64, to_z, of_z}
+use Rattle.std.proofs.Common.{◌≡◌, true, false, List, length, sym, refl, ap, ◌∙◌, subst, rules, arith, w64, to_z, of_z}
 use Rattle.std.proofs.lemmas.Int.{wraps}
-use Rattle.settlement.specs.Sums.{sum_to_ℤ}
-use Rattle.book.specs.Lent.{memory_with}
 use Rattle.book.specs.Memory.{Memory}
-use Rattle.book.specs.Months.{hours_of}
-use Rattle.standing.specs.Requests.{told_without}
-use Rattle.runs.specs.Reading.{request_of, Answer, reply_of}
-use Rattle.runs.specs.Runs.{Kept, answers_to, all_done, kept_after, balance_at, statements_in}
-use Rattle.runs.specs.Told.{stands_told}
-use Rattle.audit.specs.Audits.{asked_again}
-use Rattle.runs.proofs.Books.{kept_holds}
+use Rattle.standing.proofs.Soundness.{sound_after}
+use Rattle.runs.specs.Lent.{memory_in}
+use Rattle.runs.specs.Reading.{Answer}
+use Rattle.runs.specs.Runs.{Kept, kept_in, all_done, statements_in, together}
+use Rattle.runs.proofs.Books.{agents_long}
+use Rattle.audit.specs.declared.audits.Report.{Report}
+use Rattle.audit.specs.Audits.{AllRan, SettledIn}
+use Rattle.audit.specs.Cases.{Case, opening_in, again, ended, FirstAnswers}
 use Rattle.audit.specs.Compared.{Compared}
-use Rattle.audit.specs.Only.{only_told, residue_in, StandsMeasured}
-use Rattle.audit.specs.Settlings.{begun, ended}
-use Rattle.audit.proofs.Audited.{done_told, book_same, opens_after, begun_after, told_measured, residue_is, only_is, law_holds}
+use Rattle.audit.specs.Found.{Found, found_in}
+use Rattle.audit.specs.Reading.{case_in}
+use Rattle.audit.proofs.Agreed.{agrees}
+use Rattle.audit.proofs.Audited.{places_long, opens_after, ended_after, answered_after, states_after, left_places, left_state, law_holds}
 use Rattle.audit.proofs.audits.settle_books.Goals as goal
 use Rattle.audit.proofs.audits.settle_books.Given as given
-use Rattle.audit.proofs.audits.settle_books.Goals.{After-settle_calls-second, After-settle_standing-third}
+use Rattle.audit.proofs.audits.settle_books.Goals.{After-settle_calls-first, After-settle_calls-second, After-hear_standing-month, After-conclude-third}
 
-pub standing_residue-residue-requires-clause-measured : goal.standing_residue-residue-requires-clause-measured
-standing_residue-residue-requires-clause-measured g c hour =
+-- the answers of the first book are its run's
+first_told : (g : given.Over) (c : After-settle_calls-first g) (answers : List Answer) → answers ≡ c.settle_calls-first.new.answers →
+    FirstAnswers (case_in (g.F.ContractForm.meaning c.args.case.now.form.now) c.args.case.now) answers
+first_told g c answers same = record { memory = memory_in c.args.lent.now; agents = sym c.requires.agents; opens = c.requires.opens; told = same ∙ c.settle_calls-first.ensures.told }
+
+pub residue-residue-requires-clause-first : goal.residue-residue-requires-clause-first
+residue-residue-requires-clause-first g c = first_told g (goal.at.residue-residue-requires-clause-first g c).After-settle_calls-first _ c.first_answers.ensures
+
+pub copy_from_slice-requires : goal.copy_from_slice-requires
+copy_from_slice-requires g c =
     let form = g.F.ContractForm.meaning c.args.case.now.form.now in
     let keeps = g.met.F.ContractForm.keeps c.args.case.now.form.now in
-    let f = c.args.case.now.figures in
-    let m = memory_with c.args.case.now.agents.now c.args.contracts.now c.args.ledger.now in
+    let case : Case = case_in form c.args.case.now in
+    let m : Memory = memory_in c.args.lent.now in
+    let agents = sym c.requires.agents in
     let opens = c.requires.opens in
-    let requests = map request_of c.args.case.now.calls.now in
-    subst (λ (answers : List Answer). StandsMeasured (stands_told hour None requests (map reply_of answers))) (sym c.settle_calls-first.ensures.told) (told_measured form keeps f m opens requests hour)
+    let places = ap (λ (x : Memory). x.contracts) (c.view.ensures ∙ c.settle_calls-first.ensures.memory) ∙ left_places case keeps m agents opens in
+    omega (arith, ap length places, (sound_after form (opening_in case) case.requests).long)
 
 pub settle_calls-second-requires-clause-opens : goal.settle_calls-second-requires-clause-opens
 settle_calls-second-requires-clause-opens g c =
     let form = g.F.ContractForm.meaning c.args.case.now.form.now in
     let keeps = g.met.F.ContractForm.keeps c.args.case.now.form.now in
-    let f = c.args.case.now.figures in
-    let m = memory_with c.args.case.now.agents.now c.args.contracts.now c.args.ledger.now in
+    let case : Case = case_in form c.args.case.now in
+    let m : Memory = memory_in c.args.lent.now in
+    let agents = sym c.requires.agents in
     let opens = c.requires.opens in
-    let requests = map request_of c.args.case.now.calls.now in
-    opens_after form keeps f m opens true requests _ c.settle_calls-first.ensures.came.memory
+    opens_after case keeps m agents opens true case.requests _ c.settle_calls-first.ensures.memory
 
--- memory after the second book is as if it had been opened in what was lent
+-- memory after the second book is as if that had been opened in what was lent
 second_is : (g : given.Over) (c : After-settle_calls-second g) →
-    memory_with c.args.case.now.agents.now c.settle_calls-second.new.contracts c.settle_calls-second.new.ledger
-    ≡ (ended false (g.F.ContractForm.meaning c.args.case.now.form.now) c.args.case.now.figures (map request_of c.args.case.now.calls.now) (memory_with c.args.case.now.agents.now c.args.contracts.now c.args.ledger.now)).memory
+    memory_in c.settle_calls-second.new.lent ≡ (ended false (case_in (g.F.ContractForm.meaning c.args.case.now.form.now) c.args.case.now) (memory_in c.args.lent.now)).memory
 second_is g c =
     let form = g.F.ContractForm.meaning c.args.case.now.form.now in
     let keeps = g.met.F.ContractForm.keeps c.args.case.now.form.now in
-    let f = c.args.case.now.figures in
-    let m = memory_with c.args.case.now.agents.now c.args.contracts.now c.args.ledger.now in
+    let case : Case = case_in form c.args.case.now in
+    let m : Memory = memory_in c.args.lent.now in
+    let agents = sym c.requires.agents in
     let opens = c.requires.opens in
-    let requests = map request_of c.args.case.now.calls.now in
-    c.settle_calls-second.ensures.came.memory
-    ∙ ap (λ (k : Kept). (kept_after false form f requests k).memory) (begun_after form keeps f m opens true requests _ c.settle_calls-first.ensures.came.memory)
+    c.settle_calls-second.ensures.memory ∙ ap (λ (k : Kept). k.memory) (ended_after case keeps m agents opens true case.requests _ c.settle_calls-first.ensures.memory false case.requests)
 
-pub settle_standing-third-requires-clause-opens : goal.settle_standing-third-requires-clause-opens
-settle_standing-third-requires-clause-opens g c =
+pub hear_standing-month-requires-clause-opens : goal.hear_standing-month-requires-clause-opens
+hear_standing-month-requires-clause-opens g c =
     let form = g.F.ContractForm.meaning c.args.case.now.form.now in
     let keeps = g.met.F.ContractForm.keeps c.args.case.now.form.now in
-    let f = c.args.case.now.figures in
-    let m = memory_with c.args.case.now.agents.now c.args.contracts.now c.args.ledger.now in
+    let case : Case = case_in form c.args.case.now in
+    let m : Memory = memory_in c.args.lent.now in
+    let agents = sym c.requires.agents in
     let opens = c.requires.opens in
-    let requests = map request_of c.args.case.now.calls.now in
-    opens_after form keeps f m opens false requests _ (second_is g (goal.at.settle_standing-third-requires-clause-opens g c).After-settle_calls-second)
+    opens_after case keeps m agents opens false case.requests _ (second_is g (goal.at.hear_standing-month-requires-clause-opens g c).After-settle_calls-second)
 
--- the third book was asked for only what stands in the first
-asked_is : (g : given.Over) (c : After-settle_standing-third g) →
-    only_told (hours_of c.args.case.now.figures.days) c.copy_from_slice.new.self (map request_of c.args.case.now.calls.now) (map reply_of c.settle_calls-first.new.answers) c.settle_calls-first.result.closed
-    ≡ asked_again (g.F.ContractForm.meaning c.args.case.now.form.now) c.args.case.now.figures c.args.case.now.agents.now (map request_of c.args.case.now.calls.now)
-asked_is g c =
+pub hear_standing-month-requires-clause-left : goal.hear_standing-month-requires-clause-left
+hear_standing-month-requires-clause-left g c =
     let form = g.F.ContractForm.meaning c.args.case.now.form.now in
     let keeps = g.met.F.ContractForm.keeps c.args.case.now.form.now in
-    let f = c.args.case.now.figures in
-    let m = memory_with c.args.case.now.agents.now c.args.contracts.now c.args.ledger.now in
+    let case : Case = case_in form c.args.case.now in
+    let m : Memory = memory_in c.args.lent.now in
+    let agents = sym c.requires.agents in
     let opens = c.requires.opens in
-    let requests = map request_of c.args.case.now.calls.now in
-    let first = c.settle_calls-first.ensures in
-    let places = c.copy_from_slice.ensures.after ∙ ap (λ (memory : Memory). memory.contracts) first.came.memory in
-    (λ t. only_told (hours_of f.days) (places t) requests (map reply_of (first.told t)) (first.came.closed t)) ∙ only_is form keeps f m opens requests
+    record {
+      answers = first_told g (goal.at.hear_standing-month-requires-clause-left g c).After-settle_calls-first _ c.first_answers-2.ensures;
+      places = c.copy_from_slice.ensures.after ∙ ap (λ (x : Memory). x.contracts) (c.view.ensures ∙ c.settle_calls-first.ensures.memory) ∙ left_places case keeps m agents opens;
+      state = c.settle_calls-first.ensures.came.state ∙ left_state case keeps m agents opens;
+    }
+
+-- the third book ends as if it had been opened in what was lent
+third_is : (g : given.Over) (c : After-hear_standing-month g) →
+    memory_in c.settle_calls-second.new.lent ≡ (ended false (case_in (g.F.ContractForm.meaning c.args.case.now.form.now) c.args.case.now) (memory_in c.args.lent.now)).memory →
+    kept_in c.hear_standing-month.result.month c.hear_standing-month.new.lent ≡ ended true (again (case_in (g.F.ContractForm.meaning c.args.case.now.form.now) c.args.case.now)) (memory_in c.args.lent.now)
+third_is g c second =
+    let form = g.F.ContractForm.meaning c.args.case.now.form.now in
+    let keeps = g.met.F.ContractForm.keeps c.args.case.now.form.now in
+    let case : Case = case_in form c.args.case.now in
+    let m : Memory = memory_in c.args.lent.now in
+    let agents = sym c.requires.agents in
+    let opens = c.requires.opens in
+    c.hear_standing-month.ensures.kept ∙ ended_after case keeps m agents opens false case.requests _ second true (again case).requests
+
+pub conclude-third-requires : goal.conclude-third-requires
+conclude-third-requires g c =
+    let form = g.F.ContractForm.meaning c.args.case.now.form.now in
+    let keeps = g.met.F.ContractForm.keeps c.args.case.now.form.now in
+    let case : Case = case_in form c.args.case.now in
+    let m : Memory = memory_in c.args.lent.now in
+    let agents = sym c.requires.agents in
+    let opens = c.requires.opens in
+    let at = goal.at.conclude-third-requires g c in
+    states_after case keeps m agents opens true (again case).requests _ _ c.hear_standing-month.ensures.figures (third_is g at.After-hear_standing-month (second_is g at.After-settle_calls-second)) _
+    ((places_long _ _ (found_in c.args.findings.now) c.requires.places).statements_again ∙ ap length c.requires.agents)
 
 pub returns-clause-memory : goal.returns-clause-memory
 returns-clause-memory g c =
+    let at = goal.at.returns-clause-memory g c in
+    ap (λ (k : Kept). k.memory) (third_is g at.After-hear_standing-month (second_is g at.After-settle_calls-second))
+
+-- all three books were run on memory
+all_ran : (g : given.Over) (c : After-conclude-third g) →
+    memory_in c.settle_calls-second.new.lent ≡ (ended false (case_in (g.F.ContractForm.meaning c.args.case.now.form.now) c.args.case.now) (memory_in c.args.lent.now)).memory →
+    kept_in c.hear_standing-month.result.month c.hear_standing-month.new.lent ≡ ended true (again (case_in (g.F.ContractForm.meaning c.args.case.now.form.now) c.args.case.now)) (memory_in c.args.lent.now) →
+    AllRan (case_in (g.F.ContractForm.meaning c.args.case.now.form.now) c.args.case.now) (memory_in c.args.lent.now) (record {
+      answers = c.settle_calls-first.new.answers;
+      answers_without = c.settle_calls-second.new.answers;
+      statements = c.settle_calls-first.new.statements;
+      statements_without = c.settle_calls-second.new.statements;
+      statements_again = c.conclude-third.new.statements;
+    })
+all_ran g c second third =
     let form = g.F.ContractForm.meaning c.args.case.now.form.now in
     let keeps = g.met.F.ContractForm.keeps c.args.case.now.form.now in
-    let f = c.args.case.now.figures in
-    let m = memory_with c.args.case.now.agents.now c.args.contracts.now c.args.ledger.now in
+    let case : Case = case_in form c.args.case.now in
+    let m : Memory = memory_in c.args.lent.now in
+    let agents = sym c.requires.agents in
     let opens = c.requires.opens in
-    let requests = map request_of c.args.case.now.calls.now in
-    let at = goal.at.returns-clause-memory g c in
-    let asked = asked_is g at.After-settle_standing-third in
-    let anew = begun_after form keeps f m opens false requests _ (second_is g at.After-settle_calls-second) in
-    c.settle_standing-third.ensures.came.memory ∙ (λ t. (kept_after true form f (asked t) (anew t)).memory)
+    let anew = ended_after case keeps m agents opens true case.requests _ c.settle_calls-first.ensures.memory false case.requests in
+    record {
+      first = record { told = c.settle_calls-first.ensures.told; stated = c.settle_calls-first.ensures.came.stated };
+      second = record {
+        told = c.settle_calls-second.ensures.told ∙ answered_after case keeps m agents opens true case.requests _ c.settle_calls-first.ensures.memory false case.requests;
+        stated = c.settle_calls-second.ensures.came.stated ∙ ap (λ (k : Kept). statements_in case.figures k.memory) anew;
+      };
+      third = record { told = refl; stated = c.conclude-third.ensures.stated ∙ (λ t. statements_in (c.hear_standing-month.ensures.figures t) (third t).memory) };
+    }
+
+pub returns-clause-ran : goal.returns-clause-ran
+returns-clause-ran g c =
+    let at = goal.at.returns-clause-ran g c in
+    let second = second_is g at.After-settle_calls-second in
+    all_ran g at.After-conclude-third second (third_is g at.After-hear_standing-month second)
+
+-- the law holds
+law_of : (g : given.Over) (c : After-conclude-third g) (found : Found) (report : Report) →
+    memory_in c.settle_calls-second.new.lent ≡ (ended false (case_in (g.F.ContractForm.meaning c.args.case.now.form.now) c.args.case.now) (memory_in c.args.lent.now)).memory →
+    kept_in c.hear_standing-month.result.month c.hear_standing-month.new.lent ≡ ended true (again (case_in (g.F.ContractForm.meaning c.args.case.now.form.now) c.args.case.now)) (memory_in c.args.lent.now) →
+    AllRan (case_in (g.F.ContractForm.meaning c.args.case.now.form.now) c.args.case.now) (memory_in c.args.lent.now) found →
+    report.balances ≡ c.settle_calls-first.result.balances → report.balances_without ≡ c.settle_calls-second.result.balances → report.balances_again ≡ c.conclude-third.result.balances →
+    report.residue ≡ c.residue-residue.result → SettledIn (case_in (g.F.ContractForm.meaning c.args.case.now.form.now) c.args.case.now) (memory_in c.args.lent.now) found report
+law_of g c found report second third ran one two three residue =
+    let form = g.F.ContractForm.meaning c.args.case.now.form.now in
+    let keeps = g.met.F.ContractForm.keeps c.args.case.now.form.now in
+    let case : Case = case_in form c.args.case.now in
+    let m : Memory = memory_in c.args.lent.now in
+    let agents = sym c.requires.agents in
+    let opens = c.requires.opens in
+    law_holds case keeps m agents opens found report ran
+    (one ∙ c.settle_calls-first.ensures.came.balances)
+    (two ∙ c.settle_calls-second.ensures.came.balances ∙ ap (λ (k : Kept). together (statements_in case.figures k.memory)) (ended_after case keeps m agents opens true case.requests _ c.settle_calls-first.ensures.memory false case.requests))
+    (three ∙ c.conclude-third.ensures.balances ∙ (λ t. together (statements_in (c.hear_standing-month.ensures.figures t) (third t).memory)))
+    (residue ∙ c.residue-residue.ensures)
 
 pub returns-clause-settled : goal.returns-clause-settled
 returns-clause-settled g c =
-    let form = g.F.ContractForm.meaning c.args.case.now.form.now in
-    let keeps = g.met.F.ContractForm.keeps c.args.case.now.form.now in
-    let f = c.args.case.now.figures in
-    let m = memory_with c.args.case.now.agents.now c.args.contracts.now c.args.ledger.now in
-    let opens = c.requires.opens in
-    let requests = map request_of c.args.case.now.calls.now in
     let at = goal.at.returns-clause-settled g c in
-    let first = c.settle_calls-first.ensures in
-    let second = c.settle_calls-second.ensures in
-    let third = c.settle_standing-third.ensures in
-    let anew = begun_after form keeps f m opens true requests _ first.came.memory in
-    let asked = asked_is g at.After-settle_standing-third in
-    let last = begun_after form keeps f m opens false requests _ (second_is g at.After-settle_calls-second) in
-    let first_fits : to_z w64 (of_z w64 c.settle_calls-first.result.balances) ≡ c.settle_calls-first.result.balances = search (rules, wraps) in
-    let second_fits : to_z w64 (of_z w64 c.settle_calls-second.result.balances) ≡ c.settle_calls-second.result.balances = search (rules, wraps) in
-    let third_fits : to_z w64 (of_z w64 c.settle_standing-third.result.settlement.balances) ≡ c.settle_standing-third.result.settlement.balances = search (rules, wraps) in
-    let residue_fits : to_z w64 (of_z w64 c.standing_residue-residue.result) ≡ c.standing_residue-residue.result = search (rules, wraps) in
-    let balances = λ (k : Kept). sum_to_ℤ f.agents (balance_at (statements_in f k.memory)) in
-    let one = book_same (ap (map reply_of) first.told) first.came.stated (first_fits ∙ first.came.balances) in
-    let two =
-    book_same (ap (λ answers. told_without requests (map reply_of answers)) (second.told ∙ ap (answers_to false form f requests) anew))
-    (second.came.stated ∙ ap (λ k. statements_in f (kept_after false form f requests k).memory) anew) (second_fits ∙ second.came.balances ∙ ap (λ k. balances (kept_after false form f requests k)) anew) in
-    let three =
-    book_same refl (third.came.stated ∙ (λ t. statements_in f (kept_after true form f (asked t) (last t)).memory)) (third_fits ∙ third.came.balances ∙ (λ t. balances (kept_after true form f (asked t) (last t)))) in
-    let left =
-    residue_fits
-    ∙ c.standing_residue-residue.ensures
-    ∙ (λ t. sum_to_ℤ (hours_of f.days) (λ hour. residue_in (stands_told hour None requests (map reply_of (first.told t)))))
-    ∙ residue_is form keeps f m opens requests in
-    law_holds form keeps f m opens requests _ _ _ _ one two three left
+    let second = second_is g at.After-settle_calls-second in
+    let third = third_is g at.After-hear_standing-month second in
+    let one : to_z w64 (of_z w64 c.settle_calls-first.result.balances) ≡ c.settle_calls-first.result.balances = search (rules, wraps) in
+    let two : to_z w64 (of_z w64 c.settle_calls-second.result.balances) ≡ c.settle_calls-second.result.balances = search (rules, wraps) in
+    let three : to_z w64 (of_z w64 c.conclude-third.result.balances) ≡ c.conclude-third.result.balances = search (rules, wraps) in
+    let residue : to_z w64 (of_z w64 c.residue-residue.result) ≡ c.residue-residue.result = search (rules, wraps) in
+    law_of g at.After-conclude-third _ (record {
+      balances = to_z w64 (of_z w64 c.settle_calls-first.result.balances);
+      balances_without = to_z w64 (of_z w64 c.settle_calls-second.result.balances);
+      balances_again = to_z w64 (of_z w64 c.conclude-third.result.balances);
+      residue = to_z w64 (of_z w64 c.residue-residue.result);
+      repeated = c.hear_standing-month.result.done;
+      comparison = c.compare-comparison.result;
+    }) second third (all_ran g at.After-conclude-third second third) one two three residue
 
-pub returns-clause-repeated : goal.returns-clause-repeated
-returns-clause-repeated g c =
+pub returns-clause-agrees : goal.returns-clause-agrees
+returns-clause-agrees g c =
+    let at = goal.at.returns-clause-agrees g c in
+    let second = second_is g at.After-settle_calls-second in
+    let third = third_is g at.After-hear_standing-month second in
+    let one : to_z w64 (of_z w64 c.settle_calls-first.result.balances) ≡ c.settle_calls-first.result.balances = search (rules, wraps) in
+    let two : to_z w64 (of_z w64 c.settle_calls-second.result.balances) ≡ c.settle_calls-second.result.balances = search (rules, wraps) in
+    let three : to_z w64 (of_z w64 c.conclude-third.result.balances) ≡ c.conclude-third.result.balances = search (rules, wraps) in
+    let residue : to_z w64 (of_z w64 c.residue-residue.result) ≡ c.residue-residue.result = search (rules, wraps) in
+    let law = law_of g at.After-conclude-third _ (record {
+      balances = to_z w64 (of_z w64 c.settle_calls-first.result.balances);
+      balances_without = to_z w64 (of_z w64 c.settle_calls-second.result.balances);
+      balances_again = to_z w64 (of_z w64 c.conclude-third.result.balances);
+      residue = to_z w64 (of_z w64 c.residue-residue.result);
+      repeated = c.hear_standing-month.result.done;
+      comparison = c.compare-comparison.result;
+    }) second third (all_ran g at.After-conclude-third second third) one two three residue in
     let form = g.F.ContractForm.meaning c.args.case.now.form.now in
     let keeps = g.met.F.ContractForm.keeps c.args.case.now.form.now in
-    let f = c.args.case.now.figures in
-    let m = memory_with c.args.case.now.agents.now c.args.contracts.now c.args.ledger.now in
+    let case : Case = case_in form c.args.case.now in
+    let m : Memory = memory_in c.args.lent.now in
+    let agents = sym c.requires.agents in
     let opens = c.requires.opens in
-    let requests = map request_of c.args.case.now.calls.now in
-    let at = goal.at.returns-clause-repeated g c in
-    let asked = asked_is g at.After-settle_standing-third in
-    let anew = begun_after form keeps f m opens false requests _ (second_is g at.After-settle_calls-second) in
-    c.settle_standing-third.ensures.done
-    ∙ (λ t. all_done (answers_to true form f (asked t) (anew t)))
-    ∙ done_told (answers_to true form f (asked_again form f m.agents requests) (begun m))
-
-pub returns-clause-compared : goal.returns-clause-compared
-returns-clause-compared g c =
-    let form = g.F.ContractForm.meaning c.args.case.now.form.now in
-    let keeps = g.met.F.ContractForm.keeps c.args.case.now.form.now in
-    let f = c.args.case.now.figures in
-    let m = memory_with c.args.case.now.agents.now c.args.contracts.now c.args.ledger.now in
-    let opens = c.requires.opens in
-    let requests = map request_of c.args.case.now.calls.now in
-    let places =
-    c.copy_from_slice.ensures.after ∙ ap (λ (memory : Memory). memory.contracts) c.settle_calls-first.ensures.came.memory
-    ∙ (kept_holds form keeps f m opens true requests).memory.contracts in
-    subst (λ stood. Compared f.agents c.args.case.now.calls.now c.settle_calls-first.new.answers c.settle_calls-second.new.answers stood c.settle_calls-first.new.statements c.settle_calls-second.new.statements c.settle_standing-third.new.statements c.compare-comparison.result) places c.compare-comparison.ensures
+    let long = places_long _ _ (found_in c.args.findings.now) c.requires.places in
+    let places = c.copy_from_slice.ensures.after ∙ ap (λ (x : Memory). x.contracts) (c.view.ensures ∙ c.settle_calls-first.ensures.memory) ∙ left_places case keeps m agents opens in
+    let count : length c.args.case.now.agents.now ≡ case.figures.agents = ap length c.requires.agents ∙ agents_long case.figures m opens in
+    agrees form case.figures case.agents c.args.case.now.calls.now m _ _ law
+    (subst (λ stood. Compared case.figures.agents c.args.case.now.calls.now stood (record {
+      answers = c.settle_calls-first.new.answers;
+      answers_without = c.settle_calls-second.new.answers;
+      statements = c.settle_calls-first.new.statements;
+      statements_without = c.settle_calls-second.new.statements;
+      statements_again = c.conclude-third.new.statements;
+    }) c.compare-comparison.result) places c.compare-comparison.ensures)
+    count (omega (arith, long.answers)) (omega (arith, long.answers_without)) (omega (arith, long.statements, count)) (omega (arith, long.statements_without, count))
+    (c.hear_standing-month.ensures.done ∙ ap all_done (answered_after case keeps m agents opens false case.requests _ second true (again case).requests))

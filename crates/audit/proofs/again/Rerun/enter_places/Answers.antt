@@ -1,14 +1,14 @@
 use Rattle.std.proofs.Common.{◌+◌, [], ◌∷◌, get_or, take, None, ap, ◌∙◌, rules}
-use Rattle.book.specs.Lent.{memory_with}
-use Rattle.standing.specs.Standing.{entries_of}
+use Rattle.standing.specs.Only.{entries_of}
+use Rattle.runs.specs.Lent.{memory_in}
 use Rattle.audit.specs.Again.{running_of, heard_anew}
 use Rattle.audit.proofs.Anew.{heard_more, entries_more}
-use Rattle.audit.proofs.again.enter_places.Goals as goal
+use Rattle.audit.proofs.again.Rerun.enter_places.Goals as goal
 
 pub loop-i-preserved : goal.loop-i-preserved
 loop-i-preserved g c =
     let form = g.F.ContractForm.meaning c.args.form.now in
-    let start = running_of c.args.rerun (memory_with c.args.agents.now c.args.contracts.now c.args.ledger.now) in
+    let start = running_of c.args.self (memory_in c.args.lent.now) in
     let places = c.args.places.now in
     let i = c.loop-i.i in
     record {
