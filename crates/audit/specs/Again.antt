@@ -15,7 +15,11 @@ pub record Running : Type 0 where
   pub done : Bool
 
 abbrev pub running_of : Rerun → Memory → Running
-running_of rerun memory = record { figures = figures_in rerun.month; kept = kept_of (state_of rerun.month) memory; done = rerun.done }
+running_of rerun memory = record {
+  figures = figures_in rerun.month;
+  kept = kept_of (state_of rerun.month) memory;
+  done = rerun.done;
+}
 
 -- what further requests leave
 abbrev pub heard_anew : Meaning → List Request → Running → Running

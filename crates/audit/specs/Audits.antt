@@ -21,10 +21,12 @@ use Rattle.audit.specs.Found.{Found, places_fit}
 -- memory's size, then the weekday or an agent's figures
 abbrev pub audit_fault : MonthFigures → (calls : ℕ) → Memory → Found → Option BookFault
 audit_fault f calls m found =
-    first_met (met_if (not (size_known f)) OutsideBook ∷ met_if (not (places_fit calls (length m.agents) found)) WrongSize ∷ open_fault f m ∷ [])
+    first_met (met_if (not (size_known f)) OutsideBook
+    ∷ met_if (not (places_fit calls (length m.agents) found)) WrongSize ∷ open_fault f m ∷ [])
 
 -- a book was run on memory: its answers are those that its calls were answered one after another, and its statements those of memory at the end
-pub record RanOnMemory (contracts : Bool) (case : Case) (m : Memory) (answers : List Answer) (statements : List Statement) : Type 0 where
+pub record RanOnMemory (contracts : Bool) (case : Case) (m : Memory)
+    (answers : List Answer) (statements : List Statement) : Type 0 where
   pub told : answers ≡ answered contracts case m
   pub stated : statements ≡ statements_in case.figures (ended contracts case m).memory
 
@@ -38,7 +40,8 @@ pub record AllRan (case : Case) (m : Memory) (found : Found) : Type 0 where
 
 -- a book as it was run, by what it was told, its statements and all balances together
 abbrev pub book_of : List Reply → List Statement → ℤ → Book
-book_of told statements balances = record { told = told; statements = map worked_in statements; balances = balances }
+book_of told statements balances =
+    record { told = told; statements = map worked_in statements; balances = balances }
 
 -- the first, as an audit finds it: what each call was answered, every agent's statement, and all balances together
 abbrev pub first_book : Found → Report → Book
@@ -47,11 +50,14 @@ first_book found report = book_of (map reply_of found.answers) found.statements 
 -- the second: what each call was answered that is not about contracts
 abbrev pub second_book : Case → Found → Report → Book
 second_book case found report =
-    book_of (told_without case.requests (map reply_of found.answers_without)) found.statements_without report.balances_without
+    let told = told_without case.requests (map reply_of found.answers_without) in
+    book_of told found.statements_without report.balances_without
 
 -- the third, which was told what its run gives
 abbrev pub third_book : Case → Memory → Found → Report → Book
-third_book case m found report = book_of (map reply_of (answered true (again case) m)) found.statements_again report.balances_again
+third_book case m found report =
+    let told = map reply_of (answered true (again case) m) in
+    book_of told found.statements_again report.balances_again
 
 -- the law holds of all three
 abbrev pub SettledIn : Case → Memory → Found → Report → Type 0

@@ -7,7 +7,7 @@ use Rattle.book.specs.declared.months.MonthFigures.{MonthFigures}
 use Rattle.settlement.specs.declared.states.State.TheVariants.{Open}
 use Rattle.book.specs.Memory.{Memory}
 use Rattle.book.specs.Opening.{open_fault, emptied}
-use Rattle.standing.specs.Requests.{Opening, Request, posting, without_contracts}
+use Rattle.standing.specs.Requests.{Opening, Request, posting}
 use Rattle.standing.specs.Only.{only_standing}
 use Rattle.standing.specs.Standing.{Standing}
 use Rattle.standing.specs.Turns.{after}
@@ -24,7 +24,12 @@ pub record Case : Type 0 where
 
 -- what a list of calls asks
 abbrev pub case_of : Meaning → MonthFigures → List Agent → List Call → Case
-case_of form figures agents calls = record { form = form; figures = figures; agents = agents; requests = map request_of calls }
+case_of form figures agents calls = record {
+  form = form;
+  figures = figures;
+  agents = agents;
+  requests = map request_of calls;
+}
 
 -- what all three books are opened with
 abbrev pub opening_in : Case → Opening
@@ -34,11 +39,7 @@ opening_in case = opening_of case.figures case.agents
 abbrev pub standing_in : Case → Standing
 standing_in case = after case.form (opening_in case) case.requests
 
--- the second hears the same list without requests about contracts
-abbrev pub without : Case → Case
-without case = record case { requests = without_contracts case.requests }
-
--- the third only what stands in the first at the end
+-- what the third book hears: only what stands in the first at the end
 abbrev pub again : Case → Case
 again case = record case { requests = only_standing (opening_in case) (standing_in case) }
 

@@ -21,7 +21,8 @@ use Rattle.audit.specs.Found.{Found}
 -- two calls were answered alike: both done, both refused with the same number and place, or both skipped
 abbrev pub same_manner : Manner → Manner → Bool
 same_manner was_done was_done = true
-same_manner (was_refused fault) (was_refused other) = number_of fault == number_of other && place_of fault == place_of other
+same_manner (was_refused fault) (was_refused other) =
+    number_of fault == number_of other && place_of fault == place_of other
 same_manner was_skipped was_skipped = true
 same_manner _ _ = false
 
@@ -38,7 +39,9 @@ heard_in calls = length (filter heard_by_both calls)
 
 abbrev pub alike_in : List Call → (answers without : List Answer) → ℕ
 alike_in calls answers without =
-    length (filter (λ call. heard_by_both call.0 && same_answer call.1.0 call.1.1) (zip calls (zip answers without)))
+    let alike = λ (call : Call × (Answer × Answer)).
+    heard_by_both call.0 && same_answer call.1.0 call.1.1 in
+    length (filter alike (zip calls (zip answers without)))
 
 -- two whole numbers are equal, as 64 bits hold them
 abbrev pub same_number : ℤ → ℤ → Bool
@@ -47,12 +50,14 @@ same_number x y = of_z w64 x == of_z w64 y
 -- two statements are the same, number by number
 abbrev pub same_lines : Money → Money → Bool
 same_lines x y =
-    same_number x.market y.market && (same_number x.contract y.contract && (same_number x.overcost y.overcost && same_number x.power y.power))
+    same_number x.market y.market && (same_number x.contract y.contract
+    && (same_number x.overcost y.overcost && same_number x.power y.power))
 
 abbrev pub same_statement : Statement → Statement → Bool
 same_statement x y =
     same_lines x.lines y.lines
-    && (same_number x.balance y.balance && (x.energy.injected == y.energy.injected && (x.energy.withdrawn == y.energy.withdrawn
+    && (same_number x.balance y.balance && (x.energy.injected == y.energy.injected
+    && (x.energy.withdrawn == y.energy.withdrawn
     && (x.peak.kwh == y.peak.kwh && x.peak.hour == y.peak.hour))))
 
 -- how many agents have the same statement in two books
@@ -65,14 +70,18 @@ strangers_in count places = length (filter (λ i. is_stranger i places) (range_w
 
 abbrev pub strangers_same : (count : ℕ) → List (Option Contract) → (one other : List Statement) → ℕ
 strangers_same count places one other =
-    length (filter (λ agent. is_stranger agent.0 places && same_statement agent.1.0 agent.1.1) (zip (range_with_len 0 count) (zip one other)))
+    let same = λ (agent : ℕ × (Statement × Statement)).
+    is_stranger agent.0 places && same_statement agent.1.0 agent.1.1 in
+    length (filter same (zip (range_with_len 0 count) (zip one other)))
 
 -- how the answers and statements that were found of so many agents and these calls compare, over the contracts standing in the first book
-pub record Compared (count : ℕ) (calls : List Call) (places : List (Option Contract)) (found : Found) (comparison : Comparison) : Type 0 where
+pub record Compared (count : ℕ) (calls : List Call) (places : List (Option Contract))
+    (found : Found) (comparison : Comparison) : Type 0 where
   pub heard : comparison.heard ≡ heard_in calls
   pub alike : comparison.alike ≡ alike_in calls found.answers found.answers_without
   pub strangers : comparison.strangers ≡ strangers_in count places
-  pub strangers_same : comparison.strangers_same ≡ strangers_same count places found.statements found.statements_without
+  pub strangers_same : comparison.strangers_same ≡
+      strangers_same count places found.statements found.statements_without
   pub same : comparison.same ≡ same_in found.statements found.statements_again
 
 -- what they come to: all that both books heard was answered alike, all strangers have the same statement in the first two, all agents have the
@@ -80,7 +89,8 @@ pub record Compared (count : ℕ) (calls : List Call) (places : List (Option Con
 pub record Agrees (case : Case) (report : Report) : Type 0 where
   pub heard : report.comparison.heard ≡ length (without_contracts case.requests)
   pub alike : report.comparison.alike ≡ report.comparison.heard
-  pub strangers : report.comparison.strangers ≡ strangers_in case.figures.agents (standing_in case).places
+  pub strangers : report.comparison.strangers ≡
+      strangers_in case.figures.agents (standing_in case).places
   pub strangers_same : report.comparison.strangers_same ≡ report.comparison.strangers
   pub same : report.comparison.same ≡ case.figures.agents
   pub repeated : report.repeated ≡ true

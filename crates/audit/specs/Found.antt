@@ -25,7 +25,8 @@ found_in findings = record {
 abbrev pub places_fit : (calls agents : ℕ) → Found → Bool
 places_fit calls agents found =
     length found.answers == calls && (length found.answers_without == calls
-    && (length found.statements == agents && (length found.statements_without == agents && length found.statements_again == agents)))
+    && (length found.statements == agents && (length found.statements_without == agents
+    && length found.statements_again == agents)))
 
 -- the findings lend the same places as before
 abbrev pub SamePlaces : (before after : Findings) → Type 0

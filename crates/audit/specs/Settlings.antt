@@ -8,7 +8,8 @@ use Rattle.audit.specs.declared.settling.Settlement.{Settlement}
 use Rattle.audit.specs.Cases.{Case, standing_in, FirstAnswers}
 
 -- what a book that is kept so came to: every agent's statement, whether its month is open or closed, and all balances together
-pub record Came (f : MonthFigures) (kept : Kept) (statements : List Statement) (settlement : Settlement) : Type 0 where
+pub record Came (f : MonthFigures) (kept : Kept) (statements : List Statement)
+    (settlement : Settlement) : Type 0 where
   pub stated : statements ≡ statements_in f kept.memory
   pub state : settlement.state ≡ kept.state
   pub balances : settlement.balances ≡ together (statements_in f kept.memory)

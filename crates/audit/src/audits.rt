@@ -100,13 +100,17 @@ pub fn audit<F: ContractForm>(
     ensures unread { OnErr result (memory_in lent.new ≡ memory_in lent.old) }
     ensures unwritten { OnErr result (found_in findings.new ≡ found_in findings.old) }
     // only what stands in the first book at the end is left in memory
-    ensures memory { let case = case_of (F.meaning form.now) figures lent.old.agents.now calls.now in
+    ensures memory { let agents = lent.old.agents.now in
+        let case = case_of (F.meaning form.now) figures agents calls.now in
         OnOk result (memory_in lent.new ≡ (ended true (again case) (memory_in lent.old)).memory) }
-    ensures ran { let case = case_of (F.meaning form.now) figures lent.old.agents.now calls.now in
+    ensures ran { let agents = lent.old.agents.now in
+        let case = case_of (F.meaning form.now) figures agents calls.now in
         OnOk result (AllRan case (memory_in lent.old) (found_in findings.new)) }
-    ensures settled { let case = case_of (F.meaning form.now) figures lent.old.agents.now calls.now in
+    ensures settled { let agents = lent.old.agents.now in
+        let case = case_of (F.meaning form.now) figures agents calls.now in
         IfOk result (SettledIn case (memory_in lent.old) (found_in findings.new)) }
-    ensures agrees { let case = case_of (F.meaning form.now) figures lent.old.agents.now calls.now in
+    ensures agrees { let agents = lent.old.agents.now in
+        let case = case_of (F.meaning form.now) figures agents calls.now in
         IfOk result (Agrees case) }
 {
     if !figures.is_size_known() {

@@ -39,8 +39,10 @@ pub(crate) fn conclude<F: ContractForm>(
     statements: &mut [Statement],
 ) -> Settlement
     requires { let places = length statements.old in
-        statements_fault (F.meaning form.now) (figures_in month) places (memory_in lent.now) ≡ None }
-    ensures { Came (figures_in month) (kept_of (state_of month) (memory_in lent.now)) statements.new result }
+        let m = memory_in lent.now in
+        statements_fault (F.meaning form.now) (figures_in month) places m ≡ None }
+    ensures { let kept = kept_of (state_of month) (memory_in lent.now) in
+        Came (figures_in month) kept statements.new result }
 {
     fill_statements(&month, form, lent, statements).unwrap();
     let balances = balances_together(statements);
