@@ -14,6 +14,7 @@ mod rewrites;
 mod statements;
 mod views;
 
+pub use calendar::Calendar;
 pub use closing::close;
 pub use entering::{NumberedContract, cancel, enter};
 pub use memory::{Ledger, Pool, View};

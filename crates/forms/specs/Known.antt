@@ -10,7 +10,7 @@ use Rattle.forms.specs.Terms.{parties_fit, hours_fit, figures_fit, valid_terms, 
 use Rattle.forms.specs.declared.Contract.{Contract}
 use Rattle.forms.specs.declared.Facts.{Facts}
 use Rattle.forms.specs.declared.Parties.{Parties}
-use Rattle.valuation.specs.Limits.{most_energy, most_price}
+use Rattle.valuation.specs.Limits.{most_energy, most_price, most_factor}
 
 -- terms are valid by their three tests, and facts measured by theirs
 pub valid_of : (terms : Contract) (parties : Parties) → IsTrue (parties_fit terms parties) →
@@ -29,7 +29,16 @@ pub hours_fit_longest : (hours : ℕ) (terms : Contract) → hours ≤ most_hour
 hours_fit_longest hours terms within fits = grind (arith, nat_tests)
 
 module _ (terms : Contract) (parties : Parties) (valid : Valid terms parties) where
-  -- valid terms pass the test of their figures, and so their price is within its limit
+  -- valid terms pass the three tests
+  pub parties_known : IsTrue (parties_fit terms parties)
+  unfolding valid_terms
+  parties_known = (and_parts (parties_fit terms parties) _ valid).0
+
+  pub hours_known : IsTrue (hours_fit most_hours terms)
+  unfolding valid_terms
+  hours_known = (and_parts (hours_fit most_hours terms) _ (and_parts (parties_fit terms parties) _ valid).1).0
+
+  -- and so their price is within its limit
   pub figures_known : IsTrue (figures_fit terms)
   unfolding valid_terms
   figures_known = (and_parts (hours_fit most_hours terms) _ (and_parts (parties_fit terms parties) _ valid).1).1
@@ -45,6 +54,13 @@ module _ (parties : Parties) (facts : Facts) (measured : Measured parties facts)
 
   pub price_le : facts.price ≤ most_price
   price_le = let prices = prices_known in grind (arith, nat_tests)
+
+  -- both node factors
+  pub seller_factor_le : facts.seller_factor ≤ most_factor
+  seller_factor_le = let prices = prices_known in grind (arith, nat_tests)
+
+  pub buyer_factor_le : facts.buyer_factor ≤ most_factor
+  buyer_factor_le = let prices = prices_known in grind (arith, nat_tests)
 
   pub injected_le : facts.injected ≤ most_energy
   unfolding measured_facts

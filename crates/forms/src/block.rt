@@ -5,7 +5,7 @@ ghost use Rattle.forms.specs.Kept.{block_keeps};
 
 use crate::form::ContractForm;
 use crate::hour::ContractHour;
-use crate::market::market_legs;
+use crate::market::hour_market_legs;
 use crate::{Contract, Legs, Parties};
 use calendar::Band;
 
@@ -46,6 +46,6 @@ impl ContractForm for Block {
     }
 
     fn legs(&self, hour: ContractHour, quantity: u32) -> Legs {
-        market_legs(hour, quantity)
+        hour_market_legs(hour, quantity)
     }
 }

@@ -31,7 +31,7 @@ pub use hour::ContractHour;
 pub use layer::{Layer, Lowering};
 pub use limits::{MOST_AGENTS, MOST_CONTRACTS};
 pub use margin::{ByMargin, Margin};
-pub use market::market_legs;
+pub use market::{hour_market_legs, market_legs};
 pub use measures::is_measured;
 pub use products::Product;
 pub use roles::{Role, UnknownRole};

@@ -6,7 +6,7 @@ ghost use Rattle.forms.specs.Kept.{share_keeps};
 
 use crate::form::ContractForm;
 use crate::hour::ContractHour;
-use crate::market::market_legs;
+use crate::market::hour_market_legs;
 use crate::roles::Role;
 use crate::{Contract, Facts, Legs, Parties};
 
@@ -50,6 +50,6 @@ impl ContractForm for Share {
     }
 
     fn legs(&self, hour: ContractHour, quantity: u32) -> Legs {
-        market_legs(hour, quantity)
+        hour_market_legs(hour, quantity)
     }
 }

@@ -101,7 +101,7 @@ impl CheckedPosting<'_> {
     }
 
     /// Writes the entry of each agent, contracts aside, to its place.
-    pub(crate) fn fill_entries(&self, fresh: &mut [Holding])
+    pub fn fill_entries(&self, fresh: &mut [Holding])
         requires { length fresh.old ≡ length self.now.posting.lines.now }
         ensures { let own = own_of self.now.agents.now (posting_of self.now.posting) in
             fresh.new ≡ entries_of own (length self.now.posting.lines.now) }
