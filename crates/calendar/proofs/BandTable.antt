@@ -1,12 +1,7 @@
 -- A table of 168 bands keeps the rule if one test, computed over all its entries, says so. Assumes nothing.
 use Rattle.std.proofs.Common.{◌≡◌, ℕ, ◌+◌, ◌*◌, ◌/◌, ◌%◌, ◌<◌, true, List, get_or, refl, ap, ◌∙◌, arith, lit<}
 use Rattle.std.proofs.lemmas.Bool.Decides.{Decides-below_and}
-use Rattle.calendar.specs.Bands.{band_of, band_at, same, right_below, table_is_right}
-use Rattle.calendar.specs.Weekdays.{number_of, weekday_at}
-use Rattle.calendar.specs.declared.bands.Band.{Band}
-use Rattle.calendar.specs.declared.bands.Band.TheVariants.{Peak, Medium, Base}
-use Rattle.calendar.specs.declared.weekdays.Weekday.{Weekday}
-use Rattle.calendar.specs.declared.weekdays.Weekday.TheVariants.{Monday}
+use Rattle.calendar.specs.{Bands.band_of, Bands.band_at, Bands.same, Bands.right_below, Bands.table_is_right, Weekdays.number_of, Weekdays.weekday_at, declared.bands.Band.Band, declared.bands.Band.TheVariants.Peak, declared.bands.Band.TheVariants.Medium, declared.bands.Band.TheVariants.Base, declared.weekdays.Weekday.Weekday, declared.weekdays.Weekday.TheVariants.Monday}
 
 -- bands that the test finds the same are equal
 same_is : (a b : Band) → same a b ≡ true → a ≡ b

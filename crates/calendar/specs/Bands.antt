@@ -1,9 +1,6 @@
 -- The band of an hour, by its weekday and by when it begins. Assumes nothing.
 use Rattle.std.specs.Prelude.{ℕ, zero, suc, ◌/◌, ◌%◌, Bool, true, false, if◌then◌else◌, ◌&&◌, List, nat_le, slice_index_or}
-use Rattle.calendar.specs.Weekdays.{workday, weekday_at}
-use Rattle.calendar.specs.declared.bands.Band.{Band}
-use Rattle.calendar.specs.declared.bands.Band.TheVariants.{Peak, Medium, Base}
-use Rattle.calendar.specs.declared.weekdays.Weekday.{Weekday}
+use Rattle.calendar.specs.{Weekdays.workday, Weekdays.weekday_at, declared.bands.Band.Band, declared.bands.Band.TheVariants.Peak, declared.bands.Band.TheVariants.Medium, declared.bands.Band.TheVariants.Base, declared.weekdays.Weekday.Weekday}
 
 -- An hour begins at `from` to `to`.
 abbrev pub begins : (from to hour : ℕ) → Bool

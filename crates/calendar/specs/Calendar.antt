@@ -1,10 +1,6 @@
 -- What the bands of a month follow from. Assumes nothing.
 use Rattle.std.specs.Prelude.{ℕ, ◌+◌, ◌/◌, ◌%◌, Bool, is_some}
-use Rattle.calendar.specs.Bands.{band_of}
-use Rattle.calendar.specs.Weekdays.{weekday_at, weekday_of}
-use Rattle.calendar.specs.declared.bands.Band.{Band}
-use Rattle.calendar.specs.declared.calendars.Calendar.{Calendar}
-use Rattle.calendar.specs.declared.weekdays.Weekday.{Weekday}
+use Rattle.calendar.specs.{Bands.band_of, Weekdays.weekday_at, Weekdays.weekday_of, declared.bands.Band.Band, declared.calendars.Calendar.Calendar, declared.weekdays.Weekday.Weekday}
 
 -- A calendar of a month's figures: its first day is one of the seven, 0 for Monday to 6 for Sunday.
 abbrev pub calendar_fits : Calendar → Bool

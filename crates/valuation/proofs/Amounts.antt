@@ -1,9 +1,7 @@
 -- Amounts, cost amounts and excesses are within their limits. Assumes nothing.
 use Rattle.std.proofs.Common.{ℕ, ◌-◌, ◌*◌, ◌≤◌, Bool, true, false, cond, ltb, lit<, arith}
 use Rattle.std.proofs.lemmas.Nat.{mul-le}
-use Rattle.valuation.specs.Amounts.{amount_units, cost_units, amount_of, cost_amount_of}
-use Rattle.valuation.specs.Excess.{excess_of}
-use Rattle.valuation.specs.Limits.{most_energy, most_price, most_factor, most_amount, most_cost_amount}
+use Rattle.valuation.specs.{Amounts.amount_units, Amounts.cost_units, Amounts.amount_of, Amounts.cost_amount_of, Excess.excess_of, Limits.most_energy, Limits.most_price, Limits.most_factor, Limits.most_amount, Limits.most_cost_amount}
 use Rattle.valuation.proofs.Rounding.{rounded_le}
 
 -- the amount before rounding
