@@ -1,9 +1,7 @@
 -- What C is told. Assumes nothing.
 use Rattle.std.specs.Prelude.{Option, Some, None}
-use Rattle.meter.specs.declared.faults.MeterFault.{MeterFault}
-use Rattle.meter.specs.Faults.{fault_number, fault_place}
-use Rattle.packets.specs.declared.faults.ByteFault.{ByteFault}
-use Rattle.packets.specs.Faults.{number_of, place_of}
+use Rattle.meter.specs.{declared.faults.MeterFault.MeterFault, Faults.fault_number, Faults.fault_place}
+use Rattle.packets.specs.{declared.faults.ByteFault.ByteFault, Faults.number_of, Faults.place_of}
 use Rattle.billing.specs.declared.answers.Answer.{Answer}
 
 -- a fault of a meter's day, by its number and its place

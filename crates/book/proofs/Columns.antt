@@ -1,10 +1,6 @@
 -- An hour written anew, agent after agent: entries at every so many places, and the accounts beside them. Assumes nothing.
 use Rattle.std.proofs.Common.{◌≡◌, ℕ, ◌+◌, ◌*◌, ◌/◌, ◌%◌, ◌<◌, ◌≤◌, false, cond, ◌&&◌, eqb, ltb, List, length, get_or, set, sym, ap, ◌∙◌, inl, inr, mul-le-mul_right, mul_comm, add-mul, add-one, arith}
-use Rattle.std.proofs.lemmas.Nat.{div-add-mod', div-mul-add, mod-mul-add, div_below, mul-add-lt}
-use Rattle.std.proofs.lemmas.List.FromFn.{fill_by_all}
-use Rattle.std.proofs.lemmas.List.{get_or-set_same, get_or-set_other}
-use Rattle.std.proofs.lemmas.Bool.{cases_eq, eq-eqb, ne_eqb, lt-ltb, le-ltb, and_from, and_left, and_right}
-use Rattle.std.proofs.lemmas.Bool.Decides.{nat_tests}
+use Rattle.std.proofs.lemmas.{Nat.div-add-mod', Nat.div-mul-add, Nat.mod-mul-add, Nat.div_below, Nat.mul-add-lt, List.FromFn.fill_by_all, List.get_or-set_same, List.get_or-set_other, Bool.cases_eq, Bool.eq-eqb, Bool.ne_eqb, Bool.lt-ltb, Bool.le-ltb, Bool.and_from, Bool.and_left, Bool.and_right, Bool.Decides.nat_tests}
 use Rattle.tally.proofs.Numbers.{map_counting_same}
 use Rattle.book.specs.Rewriting.{entry_place, account_with, entries_with, accounts_with}
 use Rattle.settlement.specs.Holdings.{Holding, no_holding}

@@ -2,21 +2,12 @@
 use Rattle.std.proofs.Common.{◌≡◌, ◌*◌, ◌≤◌, Bool, true, false, ◌||◌, eqb, List, [], ◌∷◌, length, Some, None, Ok, Err, Option, sym, ap, ◌∙◌}
 use Rattle.std.specs.List.{list_all}
 use Rattle.std.proofs.lemmas.Bool.{and_parts, eqb-true, leb-true}
-use Rattle.forms.specs.Meaning.{Meaning}
-use Rattle.settlement.specs.declared.faults.BookFault.{BookFault}
-use Rattle.settlement.specs.declared.faults.BookFault.TheVariants.{WrongSize, StoredOutside}
-use Rattle.forms.specs.Limits.{most_contracts}
+use Rattle.forms.specs.{Meaning.Meaning, Limits.most_contracts}
+use Rattle.settlement.specs.{declared.faults.BookFault.BookFault, declared.faults.BookFault.TheVariants.WrongSize, declared.faults.BookFault.TheVariants.StoredOutside, Agents.agent_fits, ContractFaults.place_fits, Holdings.all_withdrawn, Limits.most_month_energy, Faults.met_if, Faults.first_met}
 use Rattle.valuation.specs.Limits.{most_energy}
-use Rattle.settlement.specs.Agents.{agent_fits}
-use Rattle.settlement.specs.ContractFaults.{place_fits}
-use Rattle.settlement.specs.Holdings.{all_withdrawn}
-use Rattle.settlement.specs.Limits.{most_month_energy}
-use Rattle.settlement.specs.Faults.{met_if, first_met}
 use Rattle.settlement.proofs.FaultTables.{kept, first_met_none}
-use Rattle.book.specs.declared.months.MonthFigures.{MonthFigures}
-use Rattle.book.specs.Memory.{Memory, setting_in, sized, stored_fits, mark_fits, energy_within, size_fault, stored_fault, memory_fault}
+use Rattle.book.specs.{declared.months.MonthFigures.MonthFigures, Memory.Memory, Memory.setting_in, Memory.sized, Memory.stored_fits, Memory.mark_fits, Memory.energy_within, Memory.size_fault, Memory.stored_fault, Memory.memory_fault, Outcomes.outcome, Outcomes.outcome_of}
 use Rattle.calendar.specs.Limits.{hours_of}
-use Rattle.book.specs.Outcomes.{outcome, outcome_of}
 
 -- a row that is not met is passed over
 pub next_row : {F : Type 0} (a : Option F) (rest : List (Option F)) (answer : Option F) → None ≡ a → first_met rest ≡ answer → first_met (a ∷ rest) ≡ answer

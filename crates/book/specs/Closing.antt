@@ -1,18 +1,11 @@
 -- Closing a month. Assumes nothing.
 use Rattle.std.specs.Prelude.{ℕ, [], ◌∷◌, List, map, length, Option}
-use Rattle.std.specs.List.{range_with_len}
-use Rattle.std.specs.Option.{option_map}
+use Rattle.std.specs.{List.range_with_len, Option.option_map}
 use Rattle.tally.specs.Failing.{first_failing}
 use Rattle.calendar.specs.Limits.{hours_of}
 use Rattle.forms.specs.Meaning.{Meaning}
-use Rattle.settlement.specs.declared.faults.BookFault.{BookFault}
-use Rattle.settlement.specs.declared.faults.BookFault.TheVariants.{MissingHour, NoPowerCarrier}
-use Rattle.settlement.specs.Faults.{met_if, first_met}
-use Rattle.settlement.specs.Holdings.{withdrawn_on}
-use Rattle.settlement.specs.Power.{power_uncarried, charged_at}
-use Rattle.book.specs.declared.months.MonthFigures.{MonthFigures}
-use Rattle.book.specs.Memory.{Memory, is_posted, memory_fault}
-use Rattle.book.specs.Outcomes.{Outcome, outcome}
+use Rattle.settlement.specs.{declared.faults.BookFault.BookFault, declared.faults.BookFault.TheVariants.MissingHour, declared.faults.BookFault.TheVariants.NoPowerCarrier, Faults.met_if, Faults.first_met, Holdings.withdrawn_on, Power.power_uncarried, Power.charged_at}
+use Rattle.book.specs.{declared.months.MonthFigures.MonthFigures, Memory.Memory, Memory.is_posted, Memory.memory_fault, Outcomes.Outcome, Outcomes.outcome}
 
 -- 10: the first hour of a month of so many at which nothing stands
 abbrev pub missing_fault : (hours : ℕ) → (marks : List ℕ) → Option BookFault

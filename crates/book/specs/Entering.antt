@@ -1,13 +1,8 @@
 -- Entering and cancelling a contract. Assumes nothing.
 use Rattle.std.specs.Prelude.{ℕ, ◌-◌, [], ◌∷◌, Some, None, Option, slice_set}
-use Rattle.forms.specs.declared.Contract.{Contract}
-use Rattle.forms.specs.Meaning.{Meaning}
-use Rattle.settlement.specs.declared.faults.BookFault.{BookFault}
-use Rattle.settlement.specs.ContractFaults.{taken_fault, vacant_fault, contract_fault, covered_fault, covered_in, place_at}
-use Rattle.settlement.specs.Faults.{first_met}
-use Rattle.book.specs.declared.months.MonthFigures.{MonthFigures}
-use Rattle.book.specs.Memory.{Memory, is_posted, setting_in, memory_fault}
-use Rattle.book.specs.Outcomes.{Outcome, outcome}
+use Rattle.forms.specs.{declared.Contract.Contract, Meaning.Meaning}
+use Rattle.settlement.specs.{declared.faults.BookFault.BookFault, ContractFaults.taken_fault, ContractFaults.vacant_fault, ContractFaults.contract_fault, ContractFaults.covered_fault, ContractFaults.covered_in, ContractFaults.place_at, Faults.first_met}
+use Rattle.book.specs.{declared.months.MonthFigures.MonthFigures, Memory.Memory, Memory.is_posted, Memory.setting_in, Memory.memory_fault, Outcomes.Outcome, Outcomes.outcome}
 
 -- memory with another content of a contract place
 abbrev pub placed : (number : ℕ) → Option Contract → Memory → Memory

@@ -2,10 +2,7 @@
 use Rattle.std.specs.Prelude.{◌≡◌, List, Option}
 use Rattle.forms.specs.declared.Contract.{Contract}
 use Rattle.settlement.specs.declared.agents.Agent.{Agent}
-use Rattle.book.specs.declared.memory.Pool.{Pool}
-use Rattle.book.specs.declared.memory.Ledger.{Ledger}
-use Rattle.book.specs.declared.memory.View.{View}
-use Rattle.book.specs.Memory.{Memory, memory_of}
+use Rattle.book.specs.{declared.memory.Pool.Pool, declared.memory.Ledger.Ledger, declared.memory.View.View, Memory.Memory, Memory.memory_of}
 
 -- all memory, of a ledger with agents and contract places
 abbrev pub memory_with : List Agent → List (Option Contract) → Ledger → Memory

@@ -2,21 +2,10 @@
 use Rattle.std.specs.Prelude.{ℕ, ◌*◌, Bool, not, ◌&&◌, List, [], ◌∷◌, length, Option, ◌==◌, nat_le, slice_index}
 use Rattle.std.specs.List.{list_all}
 use Rattle.calendar.specs.Limits.{hours_of}
-use Rattle.forms.specs.declared.Contract.{Contract}
-use Rattle.forms.specs.Limits.{most_contracts}
-use Rattle.forms.specs.Meaning.{Meaning}
+use Rattle.forms.specs.{declared.Contract.Contract, Limits.most_contracts, Meaning.Meaning}
 use Rattle.valuation.specs.Limits.{most_energy}
-use Rattle.settlement.specs.declared.agents.Agent.{Agent}
-use Rattle.settlement.specs.declared.faults.BookFault.{BookFault}
-use Rattle.settlement.specs.declared.faults.BookFault.TheVariants.{WrongSize, StoredOutside}
-use Rattle.settlement.specs.Agents.{agent_fits}
-use Rattle.settlement.specs.ContractFaults.{place_fits}
-use Rattle.settlement.specs.Faults.{met_if, first_met}
-use Rattle.settlement.specs.Holdings.{Holding, all_withdrawn}
-use Rattle.settlement.specs.Limits.{most_month_energy}
-use Rattle.settlement.specs.Setting.{Setting}
-use Rattle.book.specs.declared.months.MonthFigures.{MonthFigures}
-use Rattle.book.specs.Months.{setting_with}
+use Rattle.settlement.specs.{declared.agents.Agent.Agent, declared.faults.BookFault.BookFault, declared.faults.BookFault.TheVariants.WrongSize, declared.faults.BookFault.TheVariants.StoredOutside, Agents.agent_fits, ContractFaults.place_fits, Faults.met_if, Faults.first_met, Holdings.Holding, Holdings.all_withdrawn, Limits.most_month_energy, Setting.Setting}
+use Rattle.book.specs.{declared.months.MonthFigures.MonthFigures, Months.setting_with}
 
 -- all memory of a book: a record and an account per agent, the contract places, a mark per hour,
 -- and an entry per agent and hour, agent after agent

@@ -1,17 +1,9 @@
 -- The month, open or closed: its figures. Assumes nothing.
 use Rattle.std.specs.Prelude.{ℕ, Bool, ◌&&◌, List, Ok, Err, Option, Result, nat_le}
-use Rattle.calendar.specs.Limits.{most_days}
-use Rattle.calendar.specs.declared.calendars.Calendar.{Calendar}
-use Rattle.forms.specs.declared.Contract.{Contract}
-use Rattle.forms.specs.Limits.{most_agents}
-use Rattle.forms.specs.Meaning.{Meaning}
-use Rattle.settlement.specs.declared.agents.Agent.{Agent}
-use Rattle.settlement.specs.declared.faults.BookFault.{BookFault}
-use Rattle.settlement.specs.Setting.{Setting}
-use Rattle.book.specs.declared.months.Extent.{Extent}
-use Rattle.book.specs.declared.months.OpenMonth.{OpenMonth}
-use Rattle.book.specs.declared.months.ClosedMonth.{ClosedMonth}
-use Rattle.book.specs.declared.months.MonthFigures.{MonthFigures}
+use Rattle.calendar.specs.{Limits.most_days, declared.calendars.Calendar.Calendar}
+use Rattle.forms.specs.{declared.Contract.Contract, Limits.most_agents, Meaning.Meaning}
+use Rattle.settlement.specs.{declared.agents.Agent.Agent, declared.faults.BookFault.BookFault, Setting.Setting}
+use Rattle.book.specs.declared.months.{Extent.Extent, OpenMonth.OpenMonth, ClosedMonth.ClosedMonth, MonthFigures.MonthFigures}
 
 -- the figures of a month to be opened
 abbrev pub month_figures : (agents days : ℕ) → Calendar → MonthFigures

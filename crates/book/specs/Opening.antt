@@ -2,15 +2,8 @@
 use Rattle.std.specs.Prelude.{not, ◌||◌, [], ◌∷◌, length, replicate, None, Option}
 use Rattle.std.specs.List.{list_all}
 use Rattle.calendar.specs.Calendar.{calendar_fits}
-use Rattle.settlement.specs.declared.faults.BookFault.{BookFault}
-use Rattle.settlement.specs.declared.faults.BookFault.TheVariants.{OutsideBook}
-use Rattle.settlement.specs.Agents.{agent_fits}
-use Rattle.settlement.specs.Faults.{met_if, first_met}
-use Rattle.settlement.specs.Holdings.{no_holding}
-use Rattle.book.specs.declared.months.MonthFigures.{MonthFigures}
-use Rattle.book.specs.Memory.{Memory, size_fault}
-use Rattle.book.specs.Months.{size_known}
-use Rattle.book.specs.Outcomes.{Outcome, outcome}
+use Rattle.settlement.specs.{declared.faults.BookFault.BookFault, declared.faults.BookFault.TheVariants.OutsideBook, Agents.agent_fits, Faults.met_if, Faults.first_met, Holdings.no_holding}
+use Rattle.book.specs.{declared.months.MonthFigures.MonthFigures, Memory.Memory, Memory.size_fault, Months.size_known, Outcomes.Outcome, Outcomes.outcome}
 
 -- the faults of an opening: agents or days, then the memory's size, then the calendar or an agent's
 -- figures

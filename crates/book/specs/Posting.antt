@@ -3,19 +3,8 @@ use Rattle.std.specs.Prelude.{ℕ, List, [], ◌∷◌, Some, Ok, Err, Option, R
 use Rattle.calendar.specs.Limits.{hours_of}
 use Rattle.forms.specs.Meaning.{Meaning}
 use Rattle.packets.specs.declared.faults.ByteFault.{ByteFault}
-use Rattle.settlement.specs.declared.faults.BookFault.{BookFault}
-use Rattle.settlement.specs.declared.faults.LineFault.TheVariants.{Packet}
-use Rattle.settlement.specs.declared.faults.BookFault.TheVariants.{Posting as OfPosting}
-use Rattle.settlement.specs.Faults.{first_met}
-use Rattle.settlement.specs.Holdings.{entry_of}
-use Rattle.settlement.specs.Legs.{hour_of}
-use Rattle.settlement.specs.Packets.{posting_in}
-use Rattle.settlement.specs.Posting.{Posting}
-use Rattle.settlement.specs.PostingFaults.{posting_faults}
-use Rattle.book.specs.declared.months.MonthFigures.{MonthFigures}
-use Rattle.book.specs.Memory.{Memory, setting_in, size_fault, memory_fault}
-use Rattle.book.specs.Outcomes.{Outcome, outcome}
-use Rattle.book.specs.Rewriting.{rewritten}
+use Rattle.settlement.specs.{declared.faults.BookFault.BookFault, declared.faults.LineFault.TheVariants.Packet, declared.faults.BookFault.TheVariants.Posting as OfPosting, Faults.first_met, Holdings.entry_of, Legs.hour_of, Packets.posting_in, Posting.Posting, PostingFaults.posting_faults}
+use Rattle.book.specs.{declared.months.MonthFigures.MonthFigures, Memory.Memory, Memory.setting_in, Memory.size_fault, Memory.memory_fault, Outcomes.Outcome, Outcomes.outcome, Rewriting.rewritten}
 
 -- the faults of a posting, in the order of the numbers
 abbrev pub post_fault : Meaning → MonthFigures → Posting → Memory → Option BookFault

@@ -1,21 +1,11 @@
 -- The statement of an agent, of a month that is open or closed, and a day of it. Assumes nothing.
 use Rattle.std.specs.Prelude.{ℕ, ◌+◌, ◌-◌, ◌*◌, ◌||◌, List, [], ◌∷◌, take, drop, Option, Result, ◌==◌, nat_lt, slice_index_or}
 use Rattle.std.specs.Int.{int_wrap, w64}
-use Rattle.tally.specs.declared.peak.Peak.{Peak}
-use Rattle.tally.specs.Lines.{balance_of}
-use Rattle.tally.specs.Money.{lines_of}
-use Rattle.tally.specs.Peak.{peak_of, no_peak, peak_joined}
-use Rattle.tally.specs.Total.{total, total_over}
+use Rattle.tally.specs.{declared.peak.Peak.Peak, Lines.balance_of, Money.lines_of, Peak.peak_of, Peak.no_peak, Peak.peak_joined, Total.total, Total.total_over}
 use Rattle.calendar.specs.Limits.{hours_of}
 use Rattle.forms.specs.Meaning.{Meaning}
-use Rattle.settlement.specs.declared.faults.BookFault.{BookFault}
-use Rattle.settlement.specs.declared.faults.BookFault.TheVariants.{OutsideBook}
-use Rattle.settlement.specs.Faults.{met_if, first_met, answer_of}
-use Rattle.settlement.specs.Holdings.{Holding, no_holding, holding_joined}
-use Rattle.book.specs.declared.months.MonthFigures.{MonthFigures}
-use Rattle.book.specs.declared.statements.Statement.{Statement}
-use Rattle.book.specs.Memory.{Memory, memory_fault}
-use Rattle.book.specs.Rewriting.{entry_place}
+use Rattle.settlement.specs.{declared.faults.BookFault.BookFault, declared.faults.BookFault.TheVariants.OutsideBook, Faults.met_if, Faults.first_met, Faults.answer_of, Holdings.Holding, Holdings.no_holding, Holdings.holding_joined}
+use Rattle.book.specs.{declared.months.MonthFigures.MonthFigures, declared.statements.Statement.Statement, Memory.Memory, Memory.memory_fault, Rewriting.entry_place}
 
 -- the peak of hours whose entries are these
 abbrev pub peak_over : (hours : ℕ) → (ℕ → Holding) → Peak

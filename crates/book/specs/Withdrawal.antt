@@ -2,15 +2,8 @@
 use Rattle.std.specs.Prelude.{ℕ, [], ◌∷◌, Option, ◌==◌, slice_index}
 use Rattle.calendar.specs.Limits.{hours_of}
 use Rattle.forms.specs.Meaning.{Meaning}
-use Rattle.settlement.specs.declared.faults.BookFault.{BookFault}
-use Rattle.settlement.specs.declared.faults.BookFault.TheVariants.{FreeHour}
-use Rattle.settlement.specs.Faults.{met_if, first_met, of_posting}
-use Rattle.settlement.specs.Holdings.{no_holding}
-use Rattle.settlement.specs.PostingFaults.{hour_fault}
-use Rattle.book.specs.declared.months.MonthFigures.{MonthFigures}
-use Rattle.book.specs.Memory.{Memory, memory_fault}
-use Rattle.book.specs.Outcomes.{Outcome, outcome}
-use Rattle.book.specs.Rewriting.{rewritten}
+use Rattle.settlement.specs.{declared.faults.BookFault.BookFault, declared.faults.BookFault.TheVariants.FreeHour, Faults.met_if, Faults.first_met, Faults.of_posting, Holdings.no_holding, PostingFaults.hour_fault}
+use Rattle.book.specs.{declared.months.MonthFigures.MonthFigures, Memory.Memory, Memory.memory_fault, Outcomes.Outcome, Outcomes.outcome, Rewriting.rewritten}
 
 -- the faults of a withdrawal: at last, that the hour is free
 abbrev pub withdraw_fault : Meaning → MonthFigures → (hour : ℕ) → Memory → Option BookFault

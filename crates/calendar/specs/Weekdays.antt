@@ -1,7 +1,7 @@
 -- The days of the week. Assumes nothing.
 use Rattle.std.specs.Prelude.{ℕ, Bool, if◌then◌else◌, Some, None, Option, Result, ◌==◌, nat_lt, List, ◌++◌, codes}
 use Rattle.std.specs.{Fmt.decimal, Option.ok_or}
-use Rattle.calendar.specs.{declared.weekdays.NoSuchWeekday.NoSuchWeekday, declared.weekdays.Weekday.Weekday, declared.weekdays.Weekday.TheVariants.Monday, declared.weekdays.Weekday.TheVariants.Tuesday, declared.weekdays.Weekday.TheVariants.Wednesday, declared.weekdays.Weekday.TheVariants.Thursday, declared.weekdays.Weekday.TheVariants.Friday, declared.weekdays.Weekday.TheVariants.Saturday, declared.weekdays.Weekday.TheVariants.Sunday}
+use Rattle.calendar.specs.declared.weekdays.{NoSuchWeekday.NoSuchWeekday, Weekday.Weekday, Weekday.TheVariants.Monday, Weekday.TheVariants.Tuesday, Weekday.TheVariants.Wednesday, Weekday.TheVariants.Thursday, Weekday.TheVariants.Friday, Weekday.TheVariants.Saturday, Weekday.TheVariants.Sunday}
 
 -- A weekday's number, from 0 for Monday to 6 for Sunday.
 abbrev pub number_of : Weekday → ℕ

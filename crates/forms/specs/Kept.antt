@@ -1,27 +1,10 @@
 -- What forms keep: quantities within their limit, and legs within theirs that cancel. Assumes nothing.
 use Rattle.std.specs.Prelude.{◌≡◌, ℕ, ◌*◌, ◌/◌, ◌≤◌, Bool, true, false, IsTrue, if◌then◌else◌, ◌==◌, [], ◌∷◌, ℤ, pos, ◌+ℤ◌, nat_abs}
 use Rattle.std.proofs.Math.Nat.{div-le_of_le-mul}
+use Rattle.std.proofs.lemmas.{Bool.cond_both, Bool.Decides.nat_tests, Int.ints, List.Elements.All-nil, List.Elements.All-cons}
 use Rattle.std.proofs.Common.{mul_comm, mul-le-mul_left, arith}
-use Rattle.std.proofs.lemmas.Bool.{cond_both}
-use Rattle.std.proofs.lemmas.Bool.Decides.{nat_tests}
-use Rattle.std.proofs.lemmas.Int.{ints}
-use Rattle.std.proofs.lemmas.List.Elements.{All-nil, All-cons}
-use Rattle.calendar.specs.declared.bands.Band.{Band}
-use Rattle.calendar.specs.declared.bands.Band.TheVariants.{Peak, Medium, Base}
-use Rattle.forms.specs.Kinds.{quantity_in, block, share_takes, shared_energy, share}
-use Rattle.forms.specs.Known.{figures_known, contract_price_le, prices_known, price_le, injected_le, withdrawn_among}
-use Rattle.forms.specs.Layers.{Rule, NeverRaises, less_margin, up_to_capacity, layered, by_kind, capped, lowered, product_meaning}
-use Rattle.forms.specs.Limits.{most_leg}
-use Rattle.forms.specs.Market.{factor_at, value_of, cost_of, market_legs}
-use Rattle.forms.specs.Meaning.{Meaning, Askable, Balanced, Keeps}
-use Rattle.forms.specs.Measured.{prices_fit, Measured}
-use Rattle.forms.specs.Terms.{figures_fit}
-use Rattle.forms.specs.declared.Contract.{Contract}
-use Rattle.forms.specs.declared.Delivery.{Delivery}
-use Rattle.forms.specs.declared.Delivery.TheVariants.{MarketBar, SellerNode, BuyerNode}
-use Rattle.forms.specs.declared.Facts.{Facts}
-use Rattle.forms.specs.declared.Legs.{Legs}
-use Rattle.forms.specs.declared.Parties.{Parties}
+use Rattle.calendar.specs.declared.bands.Band.{Band, TheVariants.Peak, TheVariants.Medium, TheVariants.Base}
+use Rattle.forms.specs.{Kinds.quantity_in, Kinds.block, Kinds.share_takes, Kinds.shared_energy, Kinds.share, Known.figures_known, Known.contract_price_le, Known.prices_known, Known.price_le, Known.injected_le, Known.withdrawn_among, Layers.Rule, Layers.NeverRaises, Layers.less_margin, Layers.up_to_capacity, Layers.layered, Layers.by_kind, Layers.capped, Layers.lowered, Layers.product_meaning, Limits.most_leg, Market.factor_at, Market.value_of, Market.cost_of, Market.market_legs, Meaning.Meaning, Meaning.Askable, Meaning.Balanced, Meaning.Keeps, Measured.prices_fit, Measured.Measured, Terms.figures_fit, declared.Contract.Contract, declared.Delivery.Delivery, declared.Delivery.TheVariants.MarketBar, declared.Delivery.TheVariants.SellerNode, declared.Delivery.TheVariants.BuyerNode, declared.Facts.Facts, declared.Legs.Legs, declared.Parties.Parties}
 use Rattle.valuation.proofs.Amounts.{amount_of_le, cost_amount_of_le}
 use Rattle.valuation.specs.Limits.{most_energy, most_factor, most_amount, most_cost_amount}
 

@@ -1,13 +1,7 @@
 -- The two kinds of contract. Assumes nothing.
 use Rattle.std.specs.Prelude.{ℕ, ◌*◌, ◌/◌, Bool, if◌then◌else◌, ◌&&◌, ◌==◌, nat_le}
-use Rattle.calendar.specs.declared.bands.Band.{Band}
-use Rattle.calendar.specs.declared.bands.Band.TheVariants.{Peak, Medium, Base}
-use Rattle.forms.specs.Market.{market_legs}
-use Rattle.forms.specs.Meaning.{Meaning}
-use Rattle.forms.specs.Roles.{generates, distributes, has_role}
-use Rattle.forms.specs.declared.Contract.{Contract}
-use Rattle.forms.specs.declared.Facts.{Facts}
-use Rattle.forms.specs.declared.Parties.{Parties}
+use Rattle.calendar.specs.declared.bands.Band.{Band, TheVariants.Peak, TheVariants.Medium, TheVariants.Base}
+use Rattle.forms.specs.{Market.market_legs, Meaning.Meaning, Roles.generates, Roles.distributes, Roles.has_role, declared.Contract.Contract, declared.Facts.Facts, declared.Parties.Parties}
 
 -- The quantity of a band.
 abbrev pub quantity_in : Band → Contract → ℕ

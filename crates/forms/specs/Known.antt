@@ -1,15 +1,9 @@
 -- What the tests of terms and of facts come from, and what follows from them. Assumes nothing.
 use Rattle.std.specs.Prelude.{◌≡◌, ℕ, ◌≤◌, true, IsTrue, nat_le}
 use Rattle.std.proofs.Common.{arith}
-use Rattle.std.proofs.lemmas.Bool.{and_parts}
-use Rattle.std.proofs.lemmas.Bool.Decides.{nat_tests}
+use Rattle.std.proofs.lemmas.Bool.{and_parts, Decides.nat_tests}
 use Rattle.calendar.specs.Limits.{most_hours}
-use Rattle.forms.specs.Measured.{prices_fit, withdrawn_fits, measured_facts, Measured}
-use Rattle.forms.specs.Roles.{distributes, has_role}
-use Rattle.forms.specs.Terms.{parties_fit, hours_fit, figures_fit, valid_terms, Valid}
-use Rattle.forms.specs.declared.Contract.{Contract}
-use Rattle.forms.specs.declared.Facts.{Facts}
-use Rattle.forms.specs.declared.Parties.{Parties}
+use Rattle.forms.specs.{Measured.prices_fit, Measured.withdrawn_fits, Measured.measured_facts, Measured.Measured, Roles.distributes, Roles.has_role, Terms.parties_fit, Terms.hours_fit, Terms.figures_fit, Terms.valid_terms, Terms.Valid, declared.Contract.Contract, declared.Facts.Facts, declared.Parties.Parties}
 use Rattle.valuation.specs.Limits.{most_energy, most_price, most_factor}
 
 -- terms are valid by their three tests, and facts measured by theirs

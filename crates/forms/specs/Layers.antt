@@ -1,9 +1,6 @@
 -- Forms made of forms. Assumes nothing.
 use Rattle.std.specs.Prelude.{ℕ, ◌-◌, ◌≤◌, min, if◌then◌else◌, ◌==◌}
-use Rattle.forms.specs.Kinds.{block, share}
-use Rattle.forms.specs.Meaning.{Meaning}
-use Rattle.forms.specs.declared.Contract.{Contract}
-use Rattle.forms.specs.declared.Parties.{Parties}
+use Rattle.forms.specs.{Kinds.block, Kinds.share, Meaning.Meaning, declared.Contract.Contract, declared.Parties.Parties}
 
 -- A rule for quantities: what is left of one.
 abbrev pub Rule : Type 0

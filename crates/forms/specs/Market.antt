@@ -1,10 +1,6 @@
 -- What energy delivered under a contract is worth to its parties. Assumes nothing.
 use Rattle.std.specs.Prelude.{ℕ, pos, ◌-ℤ◌}
-use Rattle.forms.specs.declared.Contract.{Contract}
-use Rattle.forms.specs.declared.Delivery.{Delivery}
-use Rattle.forms.specs.declared.Delivery.TheVariants.{MarketBar, SellerNode, BuyerNode}
-use Rattle.forms.specs.declared.Facts.{Facts}
-use Rattle.forms.specs.declared.Legs.{Legs}
+use Rattle.forms.specs.declared.{Contract.Contract, Delivery.Delivery, Delivery.TheVariants.MarketBar, Delivery.TheVariants.SellerNode, Delivery.TheVariants.BuyerNode, Facts.Facts, Legs.Legs}
 use Rattle.valuation.specs.Amounts.{amount_of, cost_amount_of}
 
 -- The factor of the market bar, in hundred-thousandths.

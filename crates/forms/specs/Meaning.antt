@@ -1,14 +1,7 @@
 -- What a contract form means, what it keeps, and when two forms are alike. Assumes nothing.
 use Rattle.std.specs.Prelude.{◌≡◌, ℕ, ◌≤◌, Bool, IsTrue, pos, nat_abs, All}
 use Rattle.std.specs.List.{list_all}
-use Rattle.forms.specs.Limits.{most_leg}
-use Rattle.forms.specs.Measured.{Measured}
-use Rattle.forms.specs.Parties.{members_of, points_of, points_together}
-use Rattle.forms.specs.Terms.{Valid, party_fits}
-use Rattle.forms.specs.declared.Contract.{Contract}
-use Rattle.forms.specs.declared.Facts.{Facts}
-use Rattle.forms.specs.declared.Legs.{Legs}
-use Rattle.forms.specs.declared.Parties.{Parties}
+use Rattle.forms.specs.{Limits.most_leg, Measured.Measured, Parties.members_of, Parties.points_of, Parties.points_together, Terms.Valid, Terms.party_fits, declared.Contract.Contract, declared.Facts.Facts, declared.Legs.Legs, declared.Parties.Parties}
 use Rattle.valuation.specs.Limits.{most_energy}
 
 -- The three functions that a form's answers are: whether it takes terms, the energy of an hour, and the legs of so much energy.

@@ -1,8 +1,6 @@
 -- The facts of an hour, as an accepted posting can have them. Assumes nothing.
 use Rattle.std.specs.Prelude.{◌+◌, Bool, if◌then◌else◌, ◌&&◌, IsTrue, nat_le}
-use Rattle.forms.specs.declared.Facts.{Facts}
-use Rattle.forms.specs.declared.Parties.{Parties}
-use Rattle.forms.specs.Roles.{distributes, has_role}
+use Rattle.forms.specs.{declared.Facts.Facts, declared.Parties.Parties, Roles.distributes, Roles.has_role}
 use Rattle.valuation.specs.Limits.{most_energy, most_price, least_factor, most_factor}
 
 -- The price and both node factors are within their limits.

@@ -1,10 +1,7 @@
 -- The parties to a contract and their legs, as lists: what is said of each party is said over these. Assumes nothing.
 use Rattle.std.specs.Prelude.{ℕ, Bool, ◌==◌, List, [], ◌∷◌, ℤ, pos, ◌+ℤ◌}
 use Rattle.std.specs.List.{list_any, zip}
-use Rattle.forms.specs.declared.Contract.{Contract}
-use Rattle.forms.specs.declared.Legs.{Legs}
-use Rattle.forms.specs.declared.Parties.{Parties}
-use Rattle.forms.specs.declared.Party.{Party}
+use Rattle.forms.specs.declared.{Contract.Contract, Legs.Legs, Parties.Parties, Party.Party}
 
 -- the numbers of a contract's parties
 abbrev pub party_numbers : Contract → List ℕ

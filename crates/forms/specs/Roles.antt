@@ -1,10 +1,7 @@
 -- The roles of agents, each table once. Assumes nothing.
 use Rattle.std.specs.Prelude.{◌≡◌, ℕ, Bool, true, false, if◌then◌else◌, Some, None, Option, Result, MatchResult, ◌==◌, List, ◌++◌, codes}
-use Rattle.std.specs.Option.{option_map_or}
-use Rattle.std.specs.Fmt.{decimal}
-use Rattle.forms.specs.declared.roles.Role.{Role}
-use Rattle.forms.specs.declared.roles.Role.TheVariants.{Generator, Distributor, Consumer}
-use Rattle.forms.specs.declared.roles.UnknownRole.{UnknownRole}
+use Rattle.std.specs.{Option.option_map_or, Fmt.decimal}
+use Rattle.forms.specs.declared.roles.{Role.Role, Role.TheVariants.Generator, Role.TheVariants.Distributor, Role.TheVariants.Consumer, UnknownRole.UnknownRole}
 
 -- 1 is a generator, 2 a distributor, 3 a large consumer
 abbrev pub role_of : (code : ℕ) → Option Role

@@ -2,12 +2,7 @@
 use Rattle.std.specs.Prelude.{ℕ, Bool, true, not, ◌&&◌, ◌==◌, List, [], ◌∷◌, IsTrue, is_some, nat_le, nat_lt}
 use Rattle.std.specs.List.{list_all}
 use Rattle.calendar.specs.Limits.{most_hours}
-use Rattle.forms.specs.declared.Contract.{Contract}
-use Rattle.forms.specs.declared.Parties.{Parties}
-use Rattle.forms.specs.declared.Party.{Party}
-use Rattle.forms.specs.Limits.{most_agents}
-use Rattle.forms.specs.Roles.{role_of, roles_fit}
-use Rattle.forms.specs.Parties.{party_numbers, members_of}
+use Rattle.forms.specs.{declared.Contract.Contract, declared.Parties.Parties, declared.Party.Party, Limits.most_agents, Roles.role_of, Roles.roles_fit, Parties.party_numbers, Parties.members_of}
 use Rattle.valuation.specs.Limits.{most_energy, most_price}
 
 -- A party is such as an agent may be: it has a role, and a capacity within its limit.

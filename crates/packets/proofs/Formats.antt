@@ -1,16 +1,8 @@
 -- Reading and writing by one format undo each other, once for every format. Assumes nothing.
 use Rattle.std.proofs.Common.{◌≡◌, ℕ, ◌+◌, ◌<◌, ◌≤◌, Bool, true, false, cond, leb, List, [], ◌∷◌, ◌++◌, length, take, drop, get_or, Option, Some, None, Result, Ok, Err, Fits, w8, refl, sym, ap, ◌∙◌, arith}
 use Rattle.std.proofs.Math.Facts.{Fits-of_lt}
-use Rattle.std.proofs.lemmas.List.{append-nil, append_assoc, take_at, drop-drop, drop_at, drop_all, length-append, length-drop, get_or-drop}
-use Rattle.std.proofs.lemmas.Bool.Decides.{nat_tests}
-use Rattle.packets.specs.declared.faults.ByteFault.{ByteFault}
-use Rattle.packets.specs.declared.faults.ByteFault.TheVariants.{Malformed}
-use Rattle.packets.specs.declared.faults.PacketFault.TheVariants.{WrongSize}
-use Rattle.packets.specs.declared.numbers.Number.{Number}
-use Rattle.packets.specs.declared.rows.Limits.{Limits}
-use Rattle.packets.specs.Faults.{of_bytes}
-use Rattle.packets.specs.Numbers.{number_in, spelled, overwritten}
-use Rattle.packets.specs.Formats.{Format, Over, Field, and_then, within, limited, figure_at, before, whole, sized, spelled_all, written, left_with, output_with, Spells}
+use Rattle.std.proofs.lemmas.{List.append-nil, List.append_assoc, List.take_at, List.drop-drop, List.drop_at, List.drop_all, List.length-append, List.length-drop, List.get_or-drop, Bool.Decides.nat_tests}
+use Rattle.packets.specs.{declared.faults.ByteFault.ByteFault, declared.faults.ByteFault.TheVariants.Malformed, declared.faults.PacketFault.TheVariants.WrongSize, declared.numbers.Number.Number, declared.rows.Limits.Limits, Faults.of_bytes, Numbers.number_in, Numbers.spelled, Numbers.overwritten, Formats.Format, Formats.Over, Formats.Field, Formats.and_then, Formats.within, Formats.limited, Formats.figure_at, Formats.before, Formats.whole, Formats.sized, Formats.spelled_all, Formats.written, Formats.left_with, Formats.output_with, Formats.Spells}
 use Rattle.packets.proofs.Spelling.{reads_spelled, spelling, size_le}
 
 -- what an answer that is no fault came from

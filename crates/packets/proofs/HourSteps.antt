@@ -1,22 +1,9 @@
 -- An hour packet's heading and lines, read, checked and written. Assumes nothing.
 use Rattle.std.proofs.Common.{◌≡◌, ℕ, suc, ◌+◌, ◌-◌, ◌<◌, ◌≤◌, true, cond, ltb, List, [], ◌∷◌, ◌++◌, length, take, drop, get_or, set, slice_index, Result, Ok, Err, refl, sym, ap, ◌∙◌, arith}
 use Rattle.std.specs.List.{flat_map}
-use Rattle.std.proofs.lemmas.Grind.{flat_map-append}
-use Rattle.std.proofs.lemmas.List.{take_more_set, append_assoc, drop_all, at_drop_more}
-use Rattle.std.proofs.lemmas.Bool.Decides.{nat_tests}
-use Rattle.packets.specs.declared.faults.ByteFault.{ByteFault}
-use Rattle.packets.specs.declared.faults.ByteFault.TheVariants.{Malformed}
-use Rattle.packets.specs.declared.faults.PacketFault.{PacketFault}
-use Rattle.packets.specs.declared.faults.PacketFault.TheVariants.{WrongSize}
-use Rattle.packets.specs.declared.hours.PacketLine.{PacketLine}
-use Rattle.packets.specs.declared.rows.Limits.{Limits}
-use Rattle.packets.specs.Faults.{of_bytes}
-use Rattle.packets.specs.Formats.{Over, and_then, before, whole, sized, spelled_all, row, closed, RowRead, within}
-use Rattle.packets.specs.Hours.{PacketHour, packet_hour, most_lines}
-use Rattle.packets.specs.HourPackets.{narrow, heading_limits, line_limits, lines_format, hour_format, LinesRead, line_figures, lines_figures, hour_figures, hour_of, hour_in, lines_of, hour_read, HourReadsBack}
-use Rattle.packets.specs.Numbers.{spelled}
-use Rattle.packets.proofs.Formats.{before_before, cond_ok, none_left}
-use Rattle.packets.proofs.RowSteps.{sized_row, pieces_next, listed}
+use Rattle.std.proofs.lemmas.{Grind.flat_map-append, List.take_more_set, List.append_assoc, List.drop_all, List.at_drop_more, Bool.Decides.nat_tests}
+use Rattle.packets.specs.{declared.faults.ByteFault.ByteFault, declared.faults.ByteFault.TheVariants.Malformed, declared.faults.PacketFault.PacketFault, declared.faults.PacketFault.TheVariants.WrongSize, declared.hours.PacketLine.PacketLine, declared.rows.Limits.Limits, Faults.of_bytes, Formats.Over, Formats.and_then, Formats.before, Formats.whole, Formats.sized, Formats.spelled_all, Formats.row, Formats.closed, Formats.RowRead, Formats.within, Hours.PacketHour, Hours.packet_hour, Hours.most_lines, HourPackets.narrow, HourPackets.heading_limits, HourPackets.line_limits, HourPackets.lines_format, HourPackets.hour_format, HourPackets.LinesRead, HourPackets.line_figures, HourPackets.lines_figures, HourPackets.hour_figures, HourPackets.hour_of, HourPackets.hour_in, HourPackets.lines_of, HourPackets.hour_read, HourPackets.HourReadsBack, Numbers.spelled}
+use Rattle.packets.proofs.{Formats.before_before, Formats.cond_ok, Formats.none_left, RowSteps.sized_row, RowSteps.pieces_next, RowSteps.listed}
 
 -- ---- reading
 

@@ -1,18 +1,10 @@
 -- Rows of numbers, a number at a time, and what stands in an output after them. Assumes nothing.
 use Rattle.std.proofs.Common.{◌≡◌, ℕ, zero, suc, ◌+◌, ◌-◌, ◌<◌, ◌≤◌, Bool, true, false, cond, List, [], ◌∷◌, ◌++◌, length, take, drop, get_or, set, Option, Some, None, Result, Ok, Err, refl, sym, ap, ◌∙◌, arith}
 use Rattle.std.specs.List.{flat_map}
-use Rattle.std.proofs.lemmas.Grind.{flat_map-append}
-use Rattle.std.proofs.lemmas.List.{take_more_set, take_more, append-nil, append_assoc, at_drop_more, drop_all, drop-drop, drop_at, take_at, length-append, take_all}
-use Rattle.std.proofs.lemmas.Bool.Decides.{nat_tests}
+use Rattle.std.proofs.lemmas.{Grind.flat_map-append, List.take_more_set, List.take_more, List.append-nil, List.append_assoc, List.at_drop_more, List.drop_all, List.drop-drop, List.drop_at, List.take_at, List.length-append, List.take_all, Bool.Decides.nat_tests}
 use borrow.Rule.Slice.PartMut.{put_mid}
-use Rattle.packets.specs.declared.faults.ByteFault.{ByteFault}
-use Rattle.packets.specs.declared.faults.ByteFault.TheVariants.{Malformed}
-use Rattle.packets.specs.declared.numbers.Number.{Number}
-use Rattle.packets.specs.declared.rows.Limits.{Limits}
-use Rattle.packets.specs.Numbers.{number_in, spelled, at_most, overwritten}
-use Rattle.packets.specs.Formats.{Format, Over, and_then, within, limited, figure_at, before, whole, sized, row, closed, no_limits}
-use Rattle.packets.proofs.Spelling.{at_most_some, at_most_within}
-use Rattle.packets.proofs.Formats.{before_before, figure_is}
+use Rattle.packets.specs.{declared.faults.ByteFault.ByteFault, declared.faults.ByteFault.TheVariants.Malformed, declared.numbers.Number.Number, declared.rows.Limits.Limits, Numbers.number_in, Numbers.spelled, Numbers.at_most, Numbers.overwritten, Formats.Format, Formats.Over, Formats.and_then, Formats.within, Formats.limited, Formats.figure_at, Formats.before, Formats.whole, Formats.sized, Formats.row, Formats.closed, Formats.no_limits}
+use Rattle.packets.proofs.{Spelling.at_most_some, Spelling.at_most_within, Formats.before_before, Formats.figure_is}
 
 -- a number within both limits
 pub figure_some : (limits : Limits) (bytes : List ℕ) (at : ℕ) (n : Number) → at_most limits.most (number_in (drop at bytes)) ≡ Some n → limits.least ≤ n.value → figure_at limits bytes at ≡ Ok n

@@ -1,12 +1,8 @@
 -- A number has one spelling, and reading it gives the number. Assumes nothing.
 use Rattle.std.proofs.Common.{◌≡◌, ℕ, zero, suc, ◌+◌, ◌-◌, ◌*◌, ◌/◌, ◌%◌, ◌^◌, ◌<◌, ◌≤◌, true, false, cond, ltb, List, [], ◌∷◌, ◌++◌, length, set, take, drop, get_or, Option, Some, None, refl, sym, ap, ◌∙◌, ⊎_elim, Fits, w8, arith}
-use Rattle.std.proofs.lemmas.Nat.{div_below}
-use Rattle.std.proofs.lemmas.List.{take_rest, drop_all, append-nil}
+use Rattle.std.proofs.lemmas.{Nat.div_below, List.take_rest, List.drop_all, List.append-nil, Bool.Decides.nat_tests, Bool.cases_lt}
 use borrow.Rule.Slice.PartMut.{put_mid}
-use Rattle.std.proofs.lemmas.Bool.Decides.{nat_tests}
-use Rattle.std.proofs.lemmas.Bool.{cases_lt}
-use Rattle.packets.specs.declared.numbers.Number.{Number}
-use Rattle.packets.specs.Numbers.{spelled_in, spelled, continued, number_in, at_most, overwritten}
+use Rattle.packets.specs.{declared.numbers.Number.Number, Numbers.spelled_in, Numbers.spelled, Numbers.continued, Numbers.number_in, Numbers.at_most, Numbers.overwritten}
 
 -- a limit on the groups that no number reaches is none
 limit_same : (f g v : ℕ) → v ≤ f → v ≤ g → spelled_in f v ≡ spelled_in g v

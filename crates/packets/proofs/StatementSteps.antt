@@ -1,13 +1,8 @@
 -- A statement packet's two rows, and its figures. Assumes nothing.
 use Rattle.std.proofs.Common.{◌≡◌, ℕ, ◌+◌, ◌*◌, ◌/◌, ◌%◌, Bool, true, false, cond, eqb, ℤ, pos, negsuc, List, ◌++◌, length, take, drop, get_or, Result, Ok, refl, ap, ◌∙◌, arith}
 use Rattle.std.proofs.lemmas.Bool.Decides.{nat_tests}
-use Rattle.packets.specs.declared.faults.ByteFault.{ByteFault}
-use Rattle.packets.specs.declared.statements.StatementFigures.{StatementFigures}
-use Rattle.packets.specs.Numbers.{overwritten}
-use Rattle.packets.specs.Formats.{Over, and_then, before, whole, sized, spelled_all, row, closed, RowRead}
-use Rattle.packets.specs.StatementPackets.{unsigned_of, signed_of, opening_limits, closing_limits, statement_format, statement_figures, statement_of, statement_read}
-use Rattle.packets.proofs.Formats.{whole_written}
-use Rattle.packets.proofs.RowSteps.{sized_row, listed, placed}
+use Rattle.packets.specs.{declared.faults.ByteFault.ByteFault, declared.statements.StatementFigures.StatementFigures, Numbers.overwritten, Formats.Over, Formats.and_then, Formats.before, Formats.whole, Formats.sized, Formats.spelled_all, Formats.row, Formats.closed, Formats.RowRead, StatementPackets.unsigned_of, StatementPackets.signed_of, StatementPackets.opening_limits, StatementPackets.closing_limits, StatementPackets.statement_format, StatementPackets.statement_figures, StatementPackets.statement_of, StatementPackets.statement_read}
+use Rattle.packets.proofs.{Formats.whole_written, RowSteps.sized_row, RowSteps.listed, RowSteps.placed}
 
 -- the opening of a statement was read, or a fault was met there
 pub statement_opening : (bytes opening : List ℕ) (r : Result ℕ ByteFault) → RowRead opening_limits bytes 0 opening r →

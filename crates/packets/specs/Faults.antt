@@ -1,9 +1,6 @@
 -- The faults of packets by number and place. Assumes nothing.
 use Rattle.std.specs.Prelude.{ℕ, Result, Ok, Err}
-use Rattle.packets.specs.declared.faults.ByteFault.{ByteFault}
-use Rattle.packets.specs.declared.faults.ByteFault.TheVariants.{Malformed}
-use Rattle.packets.specs.declared.faults.PacketFault.{PacketFault}
-use Rattle.packets.specs.declared.faults.PacketFault.TheVariants.{WrongSize, Bytes}
+use Rattle.packets.specs.declared.faults.{ByteFault.ByteFault, ByteFault.TheVariants.Malformed, PacketFault.PacketFault, PacketFault.TheVariants.WrongSize, PacketFault.TheVariants.Bytes}
 
 -- the number of a fault of bytes or figures
 abbrev pub number_of : ByteFault → ℕ

@@ -1,14 +1,7 @@
 -- Formats as data, and what reading and writing by a format come to. Assumes nothing.
 use Rattle.std.specs.Prelude.{ℕ, ◌≡◌, ◌≤◌, ◌<◌, ◌+◌, Bool, if◌then◌else◌, ◌&&◌, List, [], ◌∷◌, ◌++◌, length, drop, Option, Some, None, Result, Ok, Err, nat_le, slice_index, slice_index_or}
 use Rattle.std.specs.List.{flat_map}
-use Rattle.packets.specs.declared.faults.ByteFault.{ByteFault}
-use Rattle.packets.specs.declared.faults.ByteFault.TheVariants.{Malformed}
-use Rattle.packets.specs.declared.faults.PacketFault.{PacketFault}
-use Rattle.packets.specs.declared.faults.PacketFault.TheVariants.{WrongSize}
-use Rattle.packets.specs.declared.numbers.Number.{Number}
-use Rattle.packets.specs.declared.rows.Limits.{Limits}
-use Rattle.packets.specs.Faults.{of_bytes}
-use Rattle.packets.specs.Numbers.{number_in, spelled, overwritten}
+use Rattle.packets.specs.{declared.faults.ByteFault.ByteFault, declared.faults.ByteFault.TheVariants.Malformed, declared.faults.PacketFault.PacketFault, declared.faults.PacketFault.TheVariants.WrongSize, declared.numbers.Number.Number, declared.rows.Limits.Limits, Faults.of_bytes, Numbers.number_in, Numbers.spelled, Numbers.overwritten}
 
 -- what may come next: nothing more, or a number within limits, which sets what may follow it
 pub data Format : Type 0 where

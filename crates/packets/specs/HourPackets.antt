@@ -1,16 +1,7 @@
 -- Hour packets: their format, and the hour that they say. Assumes nothing.
 use Rattle.std.specs.Prelude.{ℕ, zero, suc, ◌≡◌, ◌≤◌, ◌-◌, ◌^◌, if◌then◌else◌, List, [], ◌∷◌, length, take, drop, replicate, Result, Ok, Err, nat_lt, slice_index}
 use Rattle.std.specs.List.{flat_map}
-use Rattle.packets.specs.declared.faults.ByteFault.{ByteFault}
-use Rattle.packets.specs.declared.faults.PacketFault.{PacketFault}
-use Rattle.packets.specs.declared.faults.PacketFault.TheVariants.{WrongSize}
-use Rattle.packets.specs.declared.rows.Limits.{Limits}
-use Rattle.packets.specs.declared.hours.PacketLine.{PacketLine}
-use Rattle.packets.specs.declared.hours.HourHeading.{HourHeading}
-use Rattle.packets.specs.Faults.{of_bytes}
-use Rattle.packets.specs.Formats.{Format, Over, and_then, before, whole, row, spelled_all, written, output_with, Spells}
-use Rattle.packets.specs.Numbers.{overwritten}
-use Rattle.packets.specs.Hours.{PacketHour, packet_hour, most_lines}
+use Rattle.packets.specs.{declared.faults.ByteFault.ByteFault, declared.faults.PacketFault.PacketFault, declared.faults.PacketFault.TheVariants.WrongSize, declared.rows.Limits.Limits, declared.hours.PacketLine.PacketLine, declared.hours.HourHeading.HourHeading, Faults.of_bytes, Formats.Format, Formats.Over, Formats.and_then, Formats.before, Formats.whole, Formats.row, Formats.spelled_all, Formats.written, Formats.output_with, Formats.Spells, Numbers.overwritten, Hours.PacketHour, Hours.packet_hour, Hours.most_lines}
 
 -- a number of 32 bits
 abbrev pub narrow : Limits

@@ -1,11 +1,7 @@
 -- Statement packets: their format, and the statement that they hold. Assumes nothing.
 use Rattle.std.specs.Prelude.{ℕ, ◌+◌, ◌*◌, ◌/◌, ◌%◌, ◌^◌, ◌-◌, if◌then◌else◌, ℤ, pos, negsuc, ◌+ℤ◌, List, [], ◌∷◌, Result, Ok, ◌==◌, slice_index}
 use Rattle.std.specs.Int.{int_wrap, w64}
-use Rattle.packets.specs.declared.faults.ByteFault.{ByteFault}
-use Rattle.packets.specs.declared.faults.PacketFault.{PacketFault}
-use Rattle.packets.specs.declared.rows.Limits.{Limits}
-use Rattle.packets.specs.declared.statements.StatementFigures.{StatementFigures}
-use Rattle.packets.specs.Formats.{Format, and_then, whole, row, closed, spelled_all, written, output_with, Spells}
+use Rattle.packets.specs.{declared.faults.ByteFault.ByteFault, declared.faults.PacketFault.PacketFault, declared.rows.Limits.Limits, declared.statements.StatementFigures.StatementFigures, Formats.Format, Formats.and_then, Formats.whole, Formats.row, Formats.closed, Formats.spelled_all, Formats.written, Formats.output_with, Formats.Spells}
 
 -- a signed number v as a number: 2 v, or below zero -2 v - 1, which is 2 n + 1 at v = -1 - n
 abbrev pub unsigned_of : ℤ → ℕ

@@ -2,9 +2,7 @@
 use Rattle.std.proofs.Common.{rules, arith}
 use Rattle.std.proofs.lemmas.Int.{ints}
 use Rattle.calendar.specs.declared.bands.Band.TheVariants.{Base}
-use Rattle.forms.specs.Kept.{quantity_in_le, two_balanced}
-use Rattle.forms.specs.Known.{figures_known, contract_price_le}
-use Rattle.forms.specs.Meaning.{Keeps}
+use Rattle.forms.specs.{Kept.quantity_in_le, Kept.two_balanced, Known.figures_known, Known.contract_price_le, Meaning.Keeps}
 use Rattle.profile.specs.Profile.{profile}
 use Rattle.valuation.proofs.Amounts.{cost_amount_of_le}
 

@@ -1,10 +1,7 @@
 -- The daily profile. Assumes nothing.
 use Rattle.std.specs.Prelude.{ℕ, ◌/◌, ◌&&◌, pos, neg_ℤ, ◌==◌}
-use Rattle.calendar.specs.declared.bands.Band.{Band}
-use Rattle.calendar.specs.declared.bands.Band.TheVariants.{Peak, Medium, Base}
-use Rattle.forms.specs.Market.{cost_of}
-use Rattle.forms.specs.Meaning.{Meaning}
-use Rattle.forms.specs.declared.Legs.{Legs}
+use Rattle.calendar.specs.declared.bands.Band.{Band, TheVariants.Peak, TheVariants.Medium, TheVariants.Base}
+use Rattle.forms.specs.{Market.cost_of, Meaning.Meaning, declared.Legs.Legs}
 
 -- The base quantity in base hours, a half of it in medium hours and a quarter in peak hours, rounded down.
 abbrev pub profiled : Band → ℕ → ℕ

@@ -1,31 +1,13 @@
 -- What an account comes to when one hour is written anew, and when its power line is charged. Assumes nothing.
 use Rattle.std.proofs.Common.{◌≡◌, ℕ, ◌+◌, ◌-◌, ◌%◌, ◌^◌, ◌<◌, eqb, ℤ, pos, Option, sym, ap, ◌∙◌, arith}
 use Rattle.std.proofs.lemmas.Bool.{cond-false, ne_eqb}
-use Rattle.tally.specs.declared.money.MoneyLine.TheVariants.{Power}
-use Rattle.tally.specs.Energy.{energy_of, no_energy, energy_joined, energy_undone}
-use Rattle.tally.specs.EnergyLaws.{energy_same, energy_lawful}
-use Rattle.tally.specs.Lines.{Lines, no_lines, lines_joined, lines_undone, alone}
-use Rattle.tally.specs.LinesLaws.{lines_lawful, lines_cancel}
-use Rattle.tally.specs.Money.{money_of, money_joined, money_undone}
-use Rattle.tally.specs.MoneyLaws.{money_of_joined, money_of_undone}
-use Rattle.tally.proofs.Lines.{alone-none}
-use Rattle.tally.proofs.Numbers.{sum_to_change}
-use Rattle.tally.proofs.PairLaws.{pair_same}
-use Rattle.tally.proofs.Sums.{total_over_changed}
-use Rattle.tally.proofs.Totals.{right_identity}
+use Rattle.tally.specs.{declared.money.MoneyLine.TheVariants.Power, Energy.energy_of, Energy.no_energy, Energy.energy_joined, Energy.energy_undone, EnergyLaws.energy_same, EnergyLaws.energy_lawful, Lines.Lines, Lines.no_lines, Lines.lines_joined, Lines.lines_undone, Lines.alone, LinesLaws.lines_lawful, LinesLaws.lines_cancel, Money.money_of, Money.money_joined, Money.money_undone, MoneyLaws.money_of_joined, MoneyLaws.money_of_undone}
+use Rattle.tally.proofs.{Lines.alone-none, Numbers.sum_to_change, PairLaws.pair_same, Sums.total_over_changed, Totals.right_identity}
 use Rattle.forms.specs.Meaning.{Meaning}
-use Rattle.settlement.specs.declared.states.State.{State}
-use Rattle.settlement.specs.declared.states.State.TheVariants.{Open}
-use Rattle.settlement.specs.Holdings.{holding_joined, entry_of, power_points}
-use Rattle.settlement.specs.Posting.{Posting}
-use Rattle.settlement.specs.Power.{power_line}
+use Rattle.settlement.specs.{declared.states.State.State, declared.states.State.TheVariants.Open, Holdings.holding_joined, Holdings.entry_of, Holdings.power_points, Posting.Posting, Power.power_line}
 use Rattle.book.specs.Rewriting.{account_with}
-use Rattle.standing.specs.Faults.{withdrawn_in, withdrawn_of}
-use Rattle.standing.specs.Requests.{Opening, hours_in, closing}
-use Rattle.standing.specs.Standing.{Standing, standing_with, setting_in}
-use Rattle.standing.specs.Turns.{changed}
-use Rattle.standing.specs.Worked.{figures_from, figures_at, lines_between, agent_lines, power_in, power_of, injected_in, injected_of}
-use Rattle.standing.proofs.Bounds.{figures_injected, figures_withdrawn}
+use Rattle.law.specs.{Faults.withdrawn_in, Faults.withdrawn_of, Requests.Opening, Requests.hours_in, Requests.closing, Standing.Standing, Standing.standing_with, Standing.setting_in, Turns.changed, Worked.figures_from, Worked.figures_at, Worked.lines_between, Worked.agent_lines, Worked.power_in, Worked.power_of, Worked.injected_in, Worked.injected_of}
+use Rattle.law.proofs.Bounds.{figures_injected, figures_withdrawn}
 use Rattle.runs.proofs.Holds.{account_of}
 
 -- ---- lines

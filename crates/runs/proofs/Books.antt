@@ -1,47 +1,19 @@
 -- A book that was opened and has heard any list of requests: its memory keeps its limits, and it was run as the rules say. Assumes nothing.
 use Rattle.std.proofs.Common.{◌≡◌, ℕ, ◌*◌, ◌<◌, ◌≤◌, Bool, true, false, cond, not, ◌||◌, ltb, leb, List, [], ◌∷◌, map, length, replicate, None, Option, sym, refl, ap, ◌∙◌, subst, arith, w64}
 use mathlib.Core.List.{map-map}
-use Rattle.std.specs.List.{range_with_len, list_all}
-use Rattle.std.specs.Int.{int_wrap}
-use Rattle.std.proofs.lemmas.Int.{int_wrap_fits}
-use Rattle.std.proofs.lemmas.List.FromFn.{length-map-range_with_len, get_or-map-range_with_len}
-use Rattle.std.proofs.lemmas.Bool.{and_parts, or_parts, not-false, leb-true, ltb-false, eqb-true, eq-eqb, le-ltb}
-use Rattle.forms.specs.Meaning.{Meaning, Keeps}
-use Rattle.settlement.specs.declared.faults.BookFault.{BookFault}
-use Rattle.settlement.specs.declared.faults.BookFault.TheVariants.{WrongSize, StoredOutside, OutsideBook}
-use Rattle.settlement.specs.Agents.{agent_fits}
-use Rattle.settlement.specs.Faults.{met_if, first_met}
-use Rattle.settlement.specs.Holdings.{no_holding}
+use Rattle.std.specs.{List.range_with_len, List.list_all, Int.int_wrap}
+use Rattle.std.proofs.lemmas.{Int.int_wrap_fits, List.FromFn.length-map-range_with_len, List.FromFn.get_or-map-range_with_len, Bool.and_parts, Bool.or_parts, Bool.not-false, Bool.leb-true, Bool.ltb-false, Bool.eqb-true, Bool.eq-eqb, Bool.le-ltb}
+use Rattle.forms.specs.{Meaning.Meaning, Meaning.Keeps, Limits.most_agents, Limits.most_contracts}
+use Rattle.settlement.specs.{declared.faults.BookFault.BookFault, declared.faults.BookFault.TheVariants.WrongSize, declared.faults.BookFault.TheVariants.StoredOutside, declared.faults.BookFault.TheVariants.OutsideBook, Agents.agent_fits, Faults.met_if, Faults.first_met, Holdings.no_holding, declared.states.State.TheVariants.Open}
 use Rattle.tally.specs.Sums.{sum_to_ℤ}
 use Rattle.tally.proofs.Numbers.{sum_to_ℤ_same, sum_to_ℤ_abs, fits_abs, map_counting_same}
-use Rattle.forms.specs.Limits.{most_agents, most_contracts}
-use Rattle.calendar.specs.Calendar.{calendar_fits}
-use Rattle.calendar.specs.Limits.{hours_of, most_days}
-use Rattle.settlement.specs.declared.states.State.TheVariants.{Open}
+use Rattle.calendar.specs.{Calendar.calendar_fits, Limits.hours_of, Limits.most_days}
 use Rattle.settlement.proofs.FaultTables.{unmet, NoneMet, first_met_none}
-use Rattle.standing.specs.Law.{Book, Ran}
-use Rattle.standing.specs.Requests.{Opening, count_in, hours_in, Request, without_contracts, told_without}
-use Rattle.standing.specs.Limits.{most_balance}
-use Rattle.standing.specs.Replies.{Reply, replies_from}
-use Rattle.standing.specs.Standing.{Standing, nothing_stands}
-use Rattle.standing.specs.Turns.{after}
-use Rattle.standing.specs.Worked.{worked, agent_balance, balances_after}
-use Rattle.standing.proofs.Bounds.{balance_abs}
-use Rattle.standing.proofs.Sound.{Opened, Sound}
-use Rattle.standing.proofs.Soundness.{sound_none, sound_after}
-use Rattle.book.specs.declared.months.MonthFigures.{MonthFigures}
-use Rattle.book.specs.declared.statements.Statement.{Statement}
-use Rattle.book.specs.Memory.{Memory, sized, stored_fits, size_fault, memory_fault, memory_of}
-use Rattle.book.specs.Months.{size_known, month_figures}
-use Rattle.book.specs.Opening.{open_fault, emptied}
-use Rattle.book.specs.Statements.{statement_in}
-use Rattle.runs.specs.Reading.{opening_of, reply_of, worked_in}
-use Rattle.runs.specs.Runs.{Kept, kept_of, answers_to, kept_after, no_statement, balance_at, statements_in, statements_fault, together}
-use Rattle.runs.proofs.Fits.{held_fits}
-use Rattle.runs.proofs.Holds.{figures_of_opening, Holds}
-use Rattle.runs.proofs.Keeps.{holds_emptied}
-use Rattle.runs.proofs.Run.{run_told, run_holds, run_told_without, run_holds_without}
-use Rattle.runs.proofs.Statements.{statements_step}
+use Rattle.law.specs.{Law.Book, Law.Ran, Requests.Opening, Requests.count_in, Requests.hours_in, Requests.Request, Requests.without_contracts, Requests.told_without, Limits.most_balance, Replies.Reply, Replies.replies_from, Standing.Standing, Standing.nothing_stands, Turns.after, Worked.worked, Worked.agent_balance, Worked.balances_after}
+use Rattle.law.proofs.{Bounds.balance_abs, Sound.Opened, Sound.Sound, Soundness.sound_none, Soundness.sound_after}
+use Rattle.book.specs.{declared.months.MonthFigures.MonthFigures, declared.statements.Statement.Statement, Memory.Memory, Memory.sized, Memory.stored_fits, Memory.size_fault, Memory.memory_fault, Memory.memory_of, Months.size_known, Months.month_figures, Opening.open_fault, Opening.emptied, Statements.statement_in}
+use Rattle.runs.specs.{Reading.opening_of, Reading.reply_of, Reading.worked_in, Runs.Kept, Runs.kept_of, Runs.answers_to, Runs.kept_after, Runs.no_statement, Runs.balance_at, Runs.statements_in, Runs.statements_fault, Runs.together}
+use Rattle.runs.proofs.{Fits.held_fits, Holds.figures_of_opening, Holds.Holds, Keeps.holds_emptied, Run.run_told, Run.run_holds, Run.run_told_without, Run.run_holds_without, Statements.statements_step}
 
 -- what a run hears of a list: all of it, or all but what is about contracts
 abbrev pub heard_by : Bool → List Request → List Request

@@ -1,7 +1,6 @@
 -- The entries of an hour, a column among those of the month, and what a write to them leaves. Assumes nothing.
 use Rattle.std.proofs.Common.{◌≡◌, ℕ, ◌*◌, ◌<◌, cond, eqb, List, length, get_or, ◌∙◌, arith}
-use Rattle.std.proofs.lemmas.Nat.{div-mul-add, mod-mul-add, mul-add-lt}
-use Rattle.std.proofs.lemmas.List.FromFn.{length-map-range_with_len, get_or-map-range_with_len}
+use Rattle.std.proofs.lemmas.{Nat.div-mul-add, Nat.mod-mul-add, Nat.mul-add-lt, List.FromFn.length-map-range_with_len, List.FromFn.get_or-map-range_with_len}
 use Rattle.settlement.specs.Holdings.{Holding, no_holding, holding_joined, holding_undone}
 use Rattle.book.specs.Rewriting.{entry_place, entries_with, accounts_with}
 

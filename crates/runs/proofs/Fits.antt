@@ -2,31 +2,16 @@
 use Rattle.std.proofs.Common.{◌≡◌, ℕ, ◌/◌, ◌%◌, ◌^◌, ◌<◌, ◌≤◌, Bool, true, not, ◌&&◌, leb, List, [], ◌∷◌, length, get_or, Some, None, Option, sym, refl, ap, ◌∙◌, arith}
 use Rattle.std.specs.List.{list_all}
 use native.Mathlib.Nat.{mod-le}
-use Rattle.std.proofs.lemmas.Nat.{div-add-mod', div_below, mod_below}
-use Rattle.std.proofs.lemmas.List.Elements.{All-from_get_or}
-use Rattle.std.proofs.lemmas.List.Sums.{list_all-from_AllPass}
-use Rattle.std.proofs.lemmas.Bool.{and_from, eq-eqb, le-leb}
+use Rattle.std.proofs.lemmas.{Nat.div-add-mod', Nat.div_below, Nat.mod_below, List.Elements.All-from_get_or, List.Sums.list_all-from_AllPass, Bool.and_from, Bool.eq-eqb, Bool.le-leb}
 use Rattle.forms.specs.Meaning.{Meaning, Keeps}
-use Rattle.settlement.specs.declared.faults.BookFault.{BookFault}
-use Rattle.settlement.specs.declared.faults.BookFault.TheVariants.{WrongSize, StoredOutside}
-use Rattle.settlement.specs.Agents.{agent_fits}
-use Rattle.settlement.specs.ContractFaults.{place_fits}
-use Rattle.settlement.specs.Faults.{met_if, first_met}
-use Rattle.settlement.specs.Holdings.{no_holding, withdrawn_on, all_withdrawn}
-use Rattle.settlement.specs.Limits.{most_month_energy}
-use Rattle.settlement.specs.Posting.{Posting}
+use Rattle.settlement.specs.{declared.faults.BookFault.BookFault, declared.faults.BookFault.TheVariants.WrongSize, declared.faults.BookFault.TheVariants.StoredOutside, Agents.agent_fits, ContractFaults.place_fits, Faults.met_if, Faults.first_met, Holdings.no_holding, Holdings.withdrawn_on, Holdings.all_withdrawn, Limits.most_month_energy, Posting.Posting}
 use Rattle.tally.specs.Sums.{sum_to}
 use Rattle.tally.proofs.Numbers.{sum_to_same, sum_by_list}
 use Rattle.valuation.specs.Limits.{most_energy}
-use Rattle.book.specs.Memory.{Memory, sized, mark_fits, energy_within, stored_fits, size_fault, memory_fault}
-use Rattle.book.specs.Months.{setting_with}
-use Rattle.standing.specs.Faults.{withdrawn_of}
-use Rattle.standing.specs.Requests.{Opening, count_in, hours_in}
-use Rattle.standing.specs.Standing.{Standing}
-use Rattle.standing.proofs.Bounds.{injected_le, withdrawn_le, injected_of_le, withdrawn_of_le, all_withdrawn_le}
-use Rattle.standing.proofs.Sound.{Opened, Sound}
-use Rattle.runs.proofs.Holds.{figures_of_opening, Held, mark_for}
-use Rattle.runs.proofs.Keeps.{withdrawn_read}
+use Rattle.book.specs.{Memory.Memory, Memory.sized, Memory.mark_fits, Memory.energy_within, Memory.stored_fits, Memory.size_fault, Memory.memory_fault, Months.setting_with}
+use Rattle.law.specs.{Faults.withdrawn_of, Requests.Opening, Requests.count_in, Requests.hours_in, Standing.Standing}
+use Rattle.law.proofs.{Bounds.injected_le, Bounds.withdrawn_le, Bounds.injected_of_le, Bounds.withdrawn_of_le, Bounds.all_withdrawn_le, Sound.Opened, Sound.Sound}
+use Rattle.runs.proofs.{Holds.figures_of_opening, Holds.Held, Holds.mark_for, Keeps.withdrawn_read}
 
 -- a test that each place of a list passes, all of it passes
 each_passes : {X : Type 0} (test : X → Bool) (xs : List X) (d : X) → ((k : ℕ) → k < length xs → test (get_or xs k d) ≡ true) → list_all test xs ≡ true

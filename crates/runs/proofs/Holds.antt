@@ -1,19 +1,10 @@
 -- How a book as it is kept holds what stands. Assumes nothing.
 use Rattle.std.proofs.Common.{◌≡◌, ℕ, ◌*◌, ◌<◌, if◌then◌else◌, length, get_or, is_some, Option}
-use Rattle.tally.specs.Money.{money_of}
-use Rattle.tally.specs.Energy.{energy_of}
-use Rattle.tally.specs.Pair.{pair_of}
+use Rattle.tally.specs.{Money.money_of, Energy.energy_of, Pair.pair_of}
 use Rattle.forms.specs.Meaning.{Meaning}
-use Rattle.settlement.specs.Holdings.{Holding, no_holding, entry_of}
-use Rattle.settlement.specs.Posting.{Posting}
-use Rattle.book.specs.declared.months.MonthFigures.{MonthFigures}
-use Rattle.book.specs.Rewriting.{entry_place}
-use Rattle.book.specs.Memory.{Memory}
-use Rattle.book.specs.Months.{month_figures}
-use Rattle.standing.specs.Requests.{Opening, count_in, hours_in}
-use Rattle.standing.specs.Faults.{withdrawn_of}
-use Rattle.standing.specs.Standing.{Standing}
-use Rattle.standing.specs.Worked.{figures_at, agent_lines, injected_of}
+use Rattle.settlement.specs.{Holdings.Holding, Holdings.no_holding, Holdings.entry_of, Posting.Posting}
+use Rattle.book.specs.{declared.months.MonthFigures.MonthFigures, Rewriting.entry_place, Memory.Memory, Months.month_figures}
+use Rattle.law.specs.{Requests.Opening, Requests.count_in, Requests.hours_in, Faults.withdrawn_of, Standing.Standing, Worked.figures_at, Worked.agent_lines, Worked.injected_of}
 use Rattle.runs.specs.Runs.{Kept}
 
 -- the figures of the month that an opening opens

@@ -1,52 +1,17 @@
 -- Memory that holds what stands: emptied, with an hour written anew, with a contract place changed, and with power charged. Assumes nothing.
 use Rattle.std.proofs.Common.{◌≡◌, ℕ, zero, suc, ◌+◌, ◌-◌, ◌*◌, ◌<◌, ◌≤◌, Bool, true, false, cond, not, eqb, leb, List, [], ◌∷◌, length, get_or, set, replicate, ℤ, pos, ◌+ℤ◌, ◌-ℤ◌, is_some, Some, None, Option, sym, refl, ap, ◌∙◌, ⊎_elim, mod-eq_of_lt, arith}
-use Rattle.std.proofs.lemmas.Nat.{mul-add-lt}
-use Rattle.std.proofs.lemmas.List.FromFn.{length-map-range_with_len, get_or-map-range_with_len}
-use Rattle.std.proofs.lemmas.List.{length-replicate, get_or-replicate, length-set, get_or-set_same, get_or-set_other}
-use Rattle.std.proofs.lemmas.Bool.{cases_eq, cond-true, cond-false, cond_both, eq-eqb, ne_eqb, leb-true, eqb-true, and_parts, both_ways, not-true}
-use Rattle.tally.specs.declared.money.MoneyLine.TheVariants.{Power}
-use Rattle.tally.specs.Energy.{energy_of, no_energy}
-use Rattle.tally.specs.Lines.{Lines, no_lines, lines_joined, alone}
-use Rattle.tally.specs.LinesLaws.{lines_lawful}
-use Rattle.tally.specs.Money.{money_of, no_money}
-use Rattle.tally.specs.Pair.{pair_of}
-use Rattle.tally.specs.Sums.{int_sum_by}
-use Rattle.tally.proofs.Failing.{each_passed}
-use Rattle.tally.proofs.Numbers.{sum_to_const_zero, map_counting_same}
-use Rattle.tally.proofs.Sums.{total_over_same, total_over_none}
+use Rattle.std.proofs.lemmas.{Nat.mul-add-lt, List.FromFn.length-map-range_with_len, List.FromFn.get_or-map-range_with_len, List.length-replicate, List.get_or-replicate, List.length-set, List.get_or-set_same, List.get_or-set_other, Bool.cases_eq, Bool.cond-true, Bool.cond-false, Bool.cond_both, Bool.eq-eqb, Bool.ne_eqb, Bool.leb-true, Bool.eqb-true, Bool.and_parts, Bool.both_ways, Bool.not-true}
+use Rattle.tally.specs.{declared.money.MoneyLine.TheVariants.Power, Energy.energy_of, Energy.no_energy, Lines.Lines, Lines.no_lines, Lines.lines_joined, Lines.alone, LinesLaws.lines_lawful, Money.money_of, Money.no_money, Pair.pair_of, Sums.int_sum_by}
+use Rattle.tally.proofs.{Failing.each_passed, Numbers.sum_to_const_zero, Numbers.map_counting_same, Sums.total_over_same, Sums.total_over_none}
 use Rattle.valuation.specs.Sharing.{part_of}
-use Rattle.forms.specs.declared.Contract.{Contract}
-use Rattle.forms.specs.Limits.{most_contracts}
-use Rattle.forms.specs.Meaning.{Meaning, Keeps}
-use Rattle.forms.specs.Parties.{legs_by_party}
-use Rattle.forms.specs.Roles.{carries}
-use Rattle.settlement.specs.declared.agents.Agent.{Agent}
-use Rattle.settlement.specs.declared.states.State.TheVariants.{Open}
-use Rattle.settlement.specs.Agents.{agent_at, counted}
-use Rattle.settlement.specs.ContractFaults.{covers, covered_in, place_at}
-use Rattle.settlement.specs.Holdings.{Holding, no_holding, holding_joined, withdrawn_on, entry_of, power_points}
-use Rattle.settlement.specs.Hour.{caused_sum, carried_by, Figures, figures_with}
-use Rattle.settlement.specs.Legs.{legs_of, given_to, given_in, is_number}
-use Rattle.settlement.specs.Posting.{Posting, line_at}
-use Rattle.settlement.specs.Power.{power_credit, power_due, power_weights}
-use Rattle.settlement.specs.Setting.{Setting}
+use Rattle.forms.specs.{declared.Contract.Contract, Limits.most_contracts, Meaning.Meaning, Meaning.Keeps, Parties.legs_by_party, Roles.carries}
+use Rattle.settlement.specs.{declared.agents.Agent.Agent, declared.states.State.TheVariants.Open, Agents.agent_at, Agents.counted, ContractFaults.covers, ContractFaults.covered_in, ContractFaults.place_at, Holdings.Holding, Holdings.no_holding, Holdings.holding_joined, Holdings.withdrawn_on, Holdings.entry_of, Holdings.power_points, Hour.caused_sum, Hour.carried_by, Hour.Figures, Hour.figures_with, Legs.legs_of, Legs.given_to, Legs.given_in, Legs.is_number, Posting.Posting, Posting.line_at, Power.power_credit, Power.power_due, Power.power_weights, Setting.Setting}
 use Rattle.settlement.proofs.FaultTables.{mapped_none}
-use Rattle.book.specs.Closing.{charged}
-use Rattle.book.specs.Entering.{placed}
-use Rattle.book.specs.Memory.{Memory}
-use Rattle.book.specs.Opening.{emptied}
-use Rattle.book.specs.Rewriting.{entry_place, account_with, rewritten}
-use Rattle.standing.specs.Faults.{withdrawn_of}
-use Rattle.standing.specs.Requests.{Opening, count_in, hours_in, closing}
-use Rattle.standing.specs.Standing.{Standing, nothing_stands, standing_with, placed_with, stands, setting_in}
-use Rattle.standing.specs.Turns.{changed}
-use Rattle.standing.specs.Worked.{figures_from, figures_at, lines_between, power_of, injected_of}
-use Rattle.standing.proofs.Bounds.{withdrawn_of_le}
-use Rattle.standing.proofs.Sound.{Opened, Sound}
+use Rattle.book.specs.{Closing.charged, Entering.placed, Memory.Memory, Opening.emptied, Rewriting.entry_place, Rewriting.account_with, Rewriting.rewritten}
+use Rattle.law.specs.{Faults.withdrawn_of, Requests.Opening, Requests.count_in, Requests.hours_in, Requests.closing, Standing.Standing, Standing.nothing_stands, Standing.standing_with, Standing.placed_with, Standing.stands, Standing.setting_in, Turns.changed, Worked.figures_from, Worked.figures_at, Worked.lines_between, Worked.power_of, Worked.injected_of}
+use Rattle.law.proofs.{Bounds.withdrawn_of_le, Sound.Opened, Sound.Sound}
 use Rattle.runs.specs.Runs.{kept_of}
-use Rattle.runs.proofs.Accounts.{account-changed, account_charged}
-use Rattle.runs.proofs.Columns.{entry_with, length-entries_with, account_with_lem, length-accounts_with}
-use Rattle.runs.proofs.Holds.{Held, Holds, mark_for, account_of}
+use Rattle.runs.proofs.{Accounts.account-changed, Accounts.account_charged, Columns.entry_with, Columns.length-entries_with, Columns.account_with_lem, Columns.length-accounts_with, Holds.Held, Holds.Holds, Holds.mark_for, Holds.account_of}
 
 -- a list with one place changed
 get_or-set : {X : Type 0} (xs : List X) (k j : ℕ) (x d : X) → k < length xs → get_or (set xs k x) j d ≡ cond (eqb j k) x (get_or xs j d)

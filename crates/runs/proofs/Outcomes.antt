@@ -1,11 +1,8 @@
 -- What a call came to that gives a month or a statement, or refuses to. Assumes nothing.
 use Rattle.std.proofs.Common.{◌≡◌, Some, None, Ok, IfOk, Option, refl, ap}
 use Rattle.std.specs.Result.{result_err}
-use Rattle.settlement.specs.declared.faults.BookFault.{BookFault}
-use Rattle.settlement.specs.Faults.{answer_of}
-use Rattle.book.specs.declared.months.MonthFigures.{MonthFigures}
-use Rattle.book.specs.Outcomes.{outcome, outcome_of}
-use Rattle.book.specs.Memory.{Memory}
+use Rattle.settlement.specs.{declared.faults.BookFault.BookFault, Faults.answer_of}
+use Rattle.book.specs.{declared.months.MonthFigures.MonthFigures, Outcomes.outcome, Outcomes.outcome_of, Memory.Memory}
 
 -- one that gave a month met no fault
 pub month_given : (met : Option BookFault) (f g : MonthFigures) (m m' after : Memory) → outcome_of (Ok g) m' ≡ outcome met f m after → (met ≡ None) × (g ≡ f) × (m' ≡ after)

@@ -1,16 +1,10 @@
 -- A whole run: what is told and what stands, for any list of requests on a book that holds what stands. Assumes nothing.
 use Rattle.std.proofs.Common.{◌≡◌, if◌then◌else◌, Bool, true, false, cond, not, List, [], ◌∷◌, map, refl}
 use Rattle.forms.specs.Meaning.{Meaning, Keeps}
-use Rattle.standing.specs.Requests.{Opening, Request, about_contracts, without_contracts, told_without}
-use Rattle.standing.specs.Replies.{Reply, replies_from}
-use Rattle.standing.specs.Standing.{Standing}
-use Rattle.standing.specs.Turns.{next, standing_after}
-use Rattle.standing.proofs.Sound.{Opened, Sound}
-use Rattle.standing.proofs.Soundness.{sound_next}
-use Rattle.runs.specs.Reading.{reply_of}
-use Rattle.runs.specs.Runs.{Kept, Turn, skipped_by, heard, answers_to, kept_after}
-use Rattle.runs.proofs.Holds.{figures_of_opening, Holds}
-use Rattle.runs.proofs.Steps.{heard_reply, heard_holds}
+use Rattle.law.specs.{Requests.Opening, Requests.Request, Requests.about_contracts, Requests.without_contracts, Requests.told_without, Replies.Reply, Replies.replies_from, Standing.Standing, Turns.next, Turns.standing_after}
+use Rattle.law.proofs.{Sound.Opened, Sound.Sound, Soundness.sound_next}
+use Rattle.runs.specs.{Reading.reply_of, Runs.Kept, Runs.Turn, Runs.skipped_by, Runs.heard, Runs.answers_to, Runs.kept_after}
+use Rattle.runs.proofs.{Holds.figures_of_opening, Holds.Holds, Steps.heard_reply, Steps.heard_holds}
 
 -- ---- what a run tells, and what it leaves
 

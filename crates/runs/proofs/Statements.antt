@@ -2,26 +2,15 @@
 use Rattle.std.proofs.Common.{◌≡◌, ℕ, ◌<◌, get_or, ap, ◌∙◌, mod-eq_of_lt, arith, w64}
 use Rattle.std.specs.Int.{int_wrap}
 use Rattle.std.proofs.lemmas.Int.{int_wrap_fits}
-use Rattle.tally.specs.Lines.{balance_of}
-use Rattle.tally.specs.Money.{lines_of}
-use Rattle.tally.specs.Peak.{no_peak, peak_of, peak_joined}
-use Rattle.tally.specs.Total.{total}
-use Rattle.tally.proofs.Lines.{lines_fit, lines_of_money}
-use Rattle.tally.proofs.Numbers.{map_counting_same}
+use Rattle.tally.specs.{Lines.balance_of, Money.lines_of, Peak.no_peak, Peak.peak_of, Peak.peak_joined, Total.total}
+use Rattle.tally.proofs.{Lines.lines_fit, Lines.lines_of_money, Numbers.map_counting_same}
 use Rattle.forms.specs.Meaning.{Meaning, Keeps}
 use Rattle.settlement.specs.Holdings.{no_holding}
-use Rattle.book.specs.Memory.{Memory}
-use Rattle.book.specs.Rewriting.{entry_place}
-use Rattle.book.specs.Statements.{peak_over, statement_in}
-use Rattle.standing.specs.Limits.{most_line_of_a_month}
-use Rattle.standing.specs.Requests.{Opening, count_in, hours_in}
-use Rattle.standing.specs.Standing.{Standing, setting_in}
-use Rattle.standing.specs.Worked.{agent_lines, worked, peak_for}
-use Rattle.standing.proofs.Bounds.{figures_withdrawn, withdrawn_le, injected_of_le, lines_within, balance_fits}
-use Rattle.standing.proofs.Sound.{Opened, Sound}
+use Rattle.book.specs.{Memory.Memory, Rewriting.entry_place, Statements.peak_over, Statements.statement_in}
+use Rattle.law.specs.{Limits.most_line_of_a_month, Requests.Opening, Requests.count_in, Requests.hours_in, Standing.Standing, Standing.setting_in, Worked.agent_lines, Worked.worked, Worked.peak_for}
+use Rattle.law.proofs.{Bounds.figures_withdrawn, Bounds.withdrawn_le, Bounds.injected_of_le, Bounds.lines_within, Bounds.balance_fits, Sound.Opened, Sound.Sound}
 use Rattle.runs.specs.Reading.{worked_in}
-use Rattle.runs.proofs.Holds.{Held}
-use Rattle.runs.proofs.Keeps.{withdrawn_read}
+use Rattle.runs.proofs.{Holds.Held, Keeps.withdrawn_read}
 
 module _ (form : Meaning) (keeps : Keeps form) (o : Opening) (opened : Opened o) (s : Standing) (sound : Sound form o s) (m : Memory) (held : Held form o s m) (i : ℕ) (agent : i < count_in o) where
   -- the peak of an agent's entries is that of what it withdrew

@@ -1,49 +1,18 @@
 -- Each request on a book that holds what stands: the answer is the one worked from what stands, and the book holds what stands then. Assumes nothing.
 use Rattle.std.proofs.Common.{◌≡◌, if◌then◌else◌, ℕ, ◌+◌, ◌-◌, ◌<◌, ◌≤◌, Bool, true, false, not, ◌&&◌, ◌||◌, eqb, ltb, leb, List, [], ◌∷◌, length, is_some, is_none, Some, None, Ok, Err, sum, Option, Result, sym, refl, ap, ◌∙◌, subst, ⊎_elim, arith}
 use Rattle.std.specs.Option.{option_map}
-use Rattle.std.proofs.lemmas.List.{get_or_past}
-use Rattle.std.proofs.lemmas.Bool.{false≢true, cases_lt, le-leb, leb-false, ltb-true, eqb-false, ltb-false, or_parts, and_parts, not-false}
+use Rattle.std.proofs.lemmas.{List.get_or_past, Bool.false≢true, Bool.cases_lt, Bool.le-leb, Bool.leb-false, Bool.ltb-true, Bool.eqb-false, Bool.ltb-false, Bool.or_parts, Bool.and_parts, Bool.not-false}
 use Rattle.tally.specs.Failing.{first_failing}
 use Rattle.tally.proofs.Failing.{all_each, first_failing_same}
 use Rattle.packets.specs.declared.faults.ByteFault.{ByteFault}
-use Rattle.forms.specs.declared.Contract.{Contract}
-use Rattle.forms.specs.Meaning.{Meaning, Keeps}
-use Rattle.settlement.specs.declared.faults.BookFault.{BookFault}
-use Rattle.settlement.specs.declared.faults.BookFault.TheVariants.{OutsideBook, FreeHour, MissingHour, NoPowerCarrier, CoveredHour}
-use Rattle.settlement.specs.declared.states.State.{State}
-use Rattle.settlement.specs.declared.states.State.TheVariants.{Open, Closed}
-use Rattle.settlement.specs.ContractFaults.{place_fits, contract_fits, contract_fault, taken_fault, vacant_fault, covered_fault, covered_in, place_at, number_known}
-use Rattle.settlement.specs.Faults.{met_if, first_met, of_posting, answer_of}
-use Rattle.settlement.specs.Holdings.{entry_of}
-use Rattle.settlement.specs.Legs.{hour_of}
-use Rattle.settlement.specs.Posting.{Posting}
-use Rattle.settlement.specs.PostingFaults.{hour_fault, posting_faults}
-use Rattle.settlement.specs.Power.{power_due}
-use Rattle.settlement.proofs.Checked.{hour_within}
-use Rattle.settlement.proofs.FaultTables.{unmet, first_met_none, of_posting_none}
-use Rattle.settlement.proofs.Settles.{fitting}
-use Rattle.book.specs.Closing.{close_fault}
-use Rattle.book.specs.Entering.{enter_fault, cancel_fault}
-use Rattle.book.specs.Memory.{Memory, is_posted}
-use Rattle.book.specs.Months.{setting_with}
-use Rattle.book.specs.Outcomes.{outcome}
-use Rattle.book.specs.Posting.{post_fault, unread_fault}
-use Rattle.book.specs.Statements.{statement_in, statement_fault, stated as stated_on}
-use Rattle.book.specs.Withdrawal.{withdraw_fault}
-use Rattle.standing.specs.Faults.{fault_met}
-use Rattle.standing.specs.Replies.{accepted, stated, skipped, done, told_as, reply}
-use Rattle.standing.specs.Requests.{Opening, count_in, hours_in, Request, posting, unread, withdrawal, entering, cancelling, closing, statement}
-use Rattle.standing.specs.Standing.{Standing, stands, setting_in}
-use Rattle.standing.specs.Turns.{can_ask, judged, changed, left_by, next}
-use Rattle.standing.proofs.Sound.{Opened, Sound}
-use Rattle.standing.proofs.Turns.{manner_asked, manner_unasked}
-use Rattle.runs.specs.declared.answers.Told.TheVariants.{Skipped}
-use Rattle.runs.specs.Reading.{reply_of}
-use Rattle.runs.specs.Runs.{Kept, kept_of, Turn, turn_of, done_as, stated_as, state_after, asked, skipped_by, heard}
-use Rattle.runs.proofs.Fits.{past_memory, no_size_fault}
-use Rattle.runs.proofs.Holds.{figures_of_opening, Held, Holds, mark_for}
-use Rattle.runs.proofs.Keeps.{held_rewritten, held_placed, held_charged, weights_read}
-use Rattle.runs.proofs.Statements.{statements_step}
+use Rattle.forms.specs.{declared.Contract.Contract, Meaning.Meaning, Meaning.Keeps}
+use Rattle.settlement.specs.{declared.faults.BookFault.BookFault, declared.faults.BookFault.TheVariants.OutsideBook, declared.faults.BookFault.TheVariants.FreeHour, declared.faults.BookFault.TheVariants.MissingHour, declared.faults.BookFault.TheVariants.NoPowerCarrier, declared.faults.BookFault.TheVariants.CoveredHour, declared.states.State.State, declared.states.State.TheVariants.Open, declared.states.State.TheVariants.Closed, ContractFaults.place_fits, ContractFaults.contract_fits, ContractFaults.contract_fault, ContractFaults.taken_fault, ContractFaults.vacant_fault, ContractFaults.covered_fault, ContractFaults.covered_in, ContractFaults.place_at, ContractFaults.number_known, Faults.met_if, Faults.first_met, Faults.of_posting, Faults.answer_of, Holdings.entry_of, Legs.hour_of, Posting.Posting, PostingFaults.hour_fault, PostingFaults.posting_faults, Power.power_due}
+use Rattle.settlement.proofs.{Checked.hour_within, FaultTables.unmet, FaultTables.first_met_none, FaultTables.of_posting_none, Settles.fitting}
+use Rattle.book.specs.{Closing.close_fault, Entering.enter_fault, Entering.cancel_fault, Memory.Memory, Memory.is_posted, Months.setting_with, Outcomes.outcome, Posting.post_fault, Posting.unread_fault, Statements.statement_in, Statements.statement_fault, Statements.stated as stated_on, Withdrawal.withdraw_fault}
+use Rattle.law.specs.{Faults.fault_met, Replies.accepted, Replies.stated, Replies.skipped, Replies.done, Replies.told_as, Replies.reply, Requests.Opening, Requests.count_in, Requests.hours_in, Requests.Request, Requests.posting, Requests.unread, Requests.withdrawal, Requests.entering, Requests.cancelling, Requests.closing, Requests.statement, Standing.Standing, Standing.stands, Standing.setting_in, Turns.can_ask, Turns.judged, Turns.changed, Turns.left_by, Turns.next}
+use Rattle.law.proofs.{Sound.Opened, Sound.Sound, Turns.manner_asked, Turns.manner_unasked}
+use Rattle.runs.specs.{declared.answers.Told.TheVariants.Skipped, Reading.reply_of, Runs.Kept, Runs.kept_of, Runs.Turn, Runs.turn_of, Runs.done_as, Runs.stated_as, Runs.state_after, Runs.asked, Runs.skipped_by, Runs.heard}
+use Rattle.runs.proofs.{Fits.past_memory, Fits.no_size_fault, Holds.figures_of_opening, Holds.Held, Holds.Holds, Holds.mark_for, Keeps.held_rewritten, Keeps.held_placed, Keeps.held_charged, Keeps.weights_read, Statements.statements_step}
 
 -- a mark other than 0 tells that a posting stands
 mark_stands : (p : Option Posting) → not (eqb (mark_for p) 0) ≡ is_some p

@@ -1,7 +1,6 @@
 -- What a host lends of a book, as one. Assumes nothing.
 use Rattle.std.specs.Prelude.{◌≡◌}
-use Rattle.book.specs.Lent.{memory_with, SameLoan as SameLedger}
-use Rattle.book.specs.Memory.{Memory}
+use Rattle.book.specs.{Lent.memory_with, Lent.SameLoan as SameLedger, Memory.Memory}
 use Rattle.runs.specs.declared.lent.Lent.{Lent}
 
 -- all memory that is lent

@@ -2,24 +2,10 @@
 use Rattle.std.specs.Prelude.{List, Ok, Err, Result, vec_items}
 use Rattle.tally.specs.Money.{lines_of}
 use Rattle.packets.specs.declared.faults.ByteFault.{ByteFault}
-use Rattle.settlement.specs.declared.agents.Agent.{Agent}
-use Rattle.settlement.specs.declared.faults.BookFault.{BookFault}
-use Rattle.settlement.specs.declared.states.State.{State}
-use Rattle.settlement.specs.declared.states.State.TheVariants.{Open, Closed}
-use Rattle.settlement.specs.Packets.{posting_in}
-use Rattle.settlement.specs.Posting.{Posting}
-use Rattle.book.specs.declared.months.MonthFigures.{MonthFigures}
-use Rattle.book.specs.declared.statements.Statement.{Statement}
-use Rattle.book.specs.Months.{figures_of, closed_figures_of}
-use Rattle.standing.specs.Replies.{Reply, accepted, stated, refused, skipped}
-use Rattle.standing.specs.Requests.{Opening, Request, posting, unread, withdrawal, entering, cancelling, closing, statement}
-use Rattle.standing.specs.Worked.{Worked}
-use Rattle.runs.specs.declared.answers.Told.{Told}
-use Rattle.runs.specs.declared.answers.Told.TheVariants.{Accepted, Stated, Skipped}
-use Rattle.runs.specs.declared.calls.Call.{Call}
-use Rattle.runs.specs.declared.calls.Call.TheVariants.{Post, Packet, Withdraw, Enter, Cancel, Close, Statement as StatementOf}
-use Rattle.runs.specs.declared.months.Month.{Month}
-use Rattle.runs.specs.declared.months.Month.TheVariants.{Open as OpenOf, Closed as ClosedOf}
+use Rattle.settlement.specs.{declared.agents.Agent.Agent, declared.faults.BookFault.BookFault, declared.states.State.State, declared.states.State.TheVariants.Open, declared.states.State.TheVariants.Closed, Packets.posting_in, Posting.Posting}
+use Rattle.book.specs.{declared.months.MonthFigures.MonthFigures, declared.statements.Statement.Statement, Months.figures_of, Months.closed_figures_of}
+use Rattle.law.specs.{Replies.Reply, Replies.accepted, Replies.stated, Replies.refused, Replies.skipped, Requests.Opening, Requests.Request, Requests.posting, Requests.unread, Requests.withdrawal, Requests.entering, Requests.cancelling, Requests.closing, Requests.statement, Worked.Worked}
+use Rattle.runs.specs.declared.{answers.Told.Told, answers.Told.TheVariants.Accepted, answers.Told.TheVariants.Stated, answers.Told.TheVariants.Skipped, calls.Call.Call, calls.Call.TheVariants.Post, calls.Call.TheVariants.Packet, calls.Call.TheVariants.Withdraw, calls.Call.TheVariants.Enter, calls.Call.TheVariants.Cancel, calls.Call.TheVariants.Close, calls.Call.TheVariants.Statement as StatementOf, months.Month.Month, months.Month.TheVariants.Open as OpenOf, months.Month.TheVariants.Closed as ClosedOf}
 
 -- what a book is opened with
 abbrev pub opening_of : MonthFigures → List Agent → Opening

@@ -1,34 +1,13 @@
 -- What requests come to in memory, one after another. Assumes nothing.
 use Rattle.std.specs.Prelude.{ℕ, Bool, not, ◌||◌, List, [], ◌∷◌, map, length, ℤ, Ok, Err, Option, Result, ◌==◌, if◌then◌else◌, slice_index_or}
-use Rattle.std.specs.List.{range_with_len, list_all}
-use Rattle.std.specs.Int.{int_wrap, w64}
-use Rattle.tally.specs.Peak.{no_peak}
-use Rattle.tally.specs.Sums.{sum_to_ℤ}
+use Rattle.std.specs.{List.range_with_len, List.list_all, Int.int_wrap, Int.w64}
+use Rattle.tally.specs.{Peak.no_peak, Sums.sum_to_ℤ}
 use Rattle.calendar.specs.Limits.{hours_of}
 use Rattle.forms.specs.Meaning.{Meaning}
-use Rattle.settlement.specs.declared.faults.BookFault.{BookFault}
-use Rattle.settlement.specs.declared.faults.BookFault.TheVariants.{WrongSize}
-use Rattle.settlement.specs.declared.states.State.{State}
-use Rattle.settlement.specs.declared.states.State.TheVariants.{Closed}
-use Rattle.settlement.specs.Faults.{met_if, first_met}
-use Rattle.settlement.specs.Holdings.{no_holding}
-use Rattle.book.specs.declared.months.MonthFigures.{MonthFigures}
-use Rattle.book.specs.declared.statements.Statement.{Statement}
-use Rattle.book.specs.Closing.{closed as closed_by}
-use Rattle.book.specs.Entering.{entered, cancelled}
-use Rattle.book.specs.Outcomes.{Outcome}
-use Rattle.book.specs.Posting.{posted, unread as refused_unread}
-use Rattle.book.specs.Statements.{statement_of, statement_in, statement_fault, stated}
-use Rattle.book.specs.Withdrawal.{withdrawn}
-use Rattle.book.specs.Memory.{Memory}
-use Rattle.standing.specs.Replies.{is_done}
-use Rattle.standing.specs.Requests.{Request, posting, unread, withdrawal, entering, cancelling, closing, statement, about_contracts}
-use Rattle.standing.specs.Turns.{can_ask}
-use Rattle.runs.specs.declared.lent.Lent.{Lent}
-use Rattle.runs.specs.declared.months.Month.{Month}
-use Rattle.runs.specs.declared.answers.Told.TheVariants.{Accepted, Stated, Skipped}
-use Rattle.runs.specs.Lent.{memory_in}
-use Rattle.runs.specs.Reading.{Answer, reply_of, state_of}
+use Rattle.settlement.specs.{declared.faults.BookFault.BookFault, declared.faults.BookFault.TheVariants.WrongSize, declared.states.State.State, declared.states.State.TheVariants.Closed, Faults.met_if, Faults.first_met, Holdings.no_holding}
+use Rattle.book.specs.{declared.months.MonthFigures.MonthFigures, declared.statements.Statement.Statement, Closing.closed as closed_by, Entering.entered, Entering.cancelled, Outcomes.Outcome, Posting.posted, Posting.unread as refused_unread, Statements.statement_of, Statements.statement_in, Statements.statement_fault, Statements.stated, Withdrawal.withdrawn, Memory.Memory}
+use Rattle.law.specs.{Replies.is_done, Requests.Request, Requests.posting, Requests.unread, Requests.withdrawal, Requests.entering, Requests.cancelling, Requests.closing, Requests.statement, Requests.about_contracts, Turns.can_ask}
+use Rattle.runs.specs.{declared.lent.Lent.Lent, declared.months.Month.Month, declared.answers.Told.TheVariants.Accepted, declared.answers.Told.TheVariants.Stated, declared.answers.Told.TheVariants.Skipped, Lent.memory_in, Reading.Answer, Reading.reply_of, Reading.state_of}
 
 -- a book as it is kept: its month is open or closed, and all its memory
 pub record Kept : Type 0 where

@@ -1,6 +1,6 @@
 //! What a call is answered.
 ghost use Rattle.std.specs.Prelude.{◌≡◌, ◌↔◌, IsTrue};
-ghost use Rattle.standing.specs.Replies.{accepted, is_done};
+ghost use Rattle.law.specs.Replies.{accepted, is_done};
 ghost use Rattle.runs.specs.Reading.{reply_of};
 
 use book::{BookFault, Statement};

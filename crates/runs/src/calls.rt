@@ -31,7 +31,7 @@ pub enum Call {
 }
 
 impl Call {
-    ghost use Rattle.standing.specs.Requests.{about_contracts};
+    ghost use Rattle.law.specs.Requests.{about_contracts};
     ghost use Rattle.runs.specs.Reading.{request_of};
 
     /// Whether it enters or cancels a contract.

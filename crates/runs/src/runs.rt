@@ -3,7 +3,7 @@ ghost use Rattle.std.specs.Prelude.{◌≡◌, ◌++◌, map, length, take, drop
 ghost use Rattle.settlement.specs.declared.states.State.TheVariants.{Open, Closed};
 ghost use Rattle.book.specs.Lent.{memory_in as memory_of_pool, memory_seen, memory_with, SameLoan as SameLedger};
 ghost use Rattle.book.specs.Months.{figures_of, closed_figures_of};
-ghost use Rattle.standing.specs.Requests.{closing};
+ghost use Rattle.law.specs.Requests.{closing};
 ghost use Rattle.runs.specs.Lent.{SameLoan};
 ghost use Rattle.runs.specs.Reading.{request_of, state_of, figures_in};
 ghost use Rattle.runs.specs.Runs.{kept_of, kept_in, turn_of, done_as, heard, turn, answers_to, kept_after};

@@ -1,20 +1,9 @@
 -- How large the excess of an hour is at most. Assumes nothing.
 use Rattle.std.proofs.Common.{◌≡◌, ℕ, ◌+◌, ◌<◌, ◌≤◌, Bool, true, false, cond, ◌&&◌, eqb, leb, List, length, get_or, Some, None, Option, ap, ◌∙◌, arith}
-use Rattle.std.proofs.lemmas.List.FromFn.{length-map-range_with_len}
-use Rattle.std.proofs.lemmas.List.{get_or_default}
-use Rattle.std.proofs.lemmas.Bool.{and_parts, leb-true}
+use Rattle.std.proofs.lemmas.{List.FromFn.length-map-range_with_len, List.get_or_default, Bool.and_parts, Bool.leb-true}
 use Rattle.valuation.specs.Limits.{most_energy, most_price, least_factor, most_factor, most_cost_amount}
-use Rattle.valuation.proofs.Amounts.{excess_of_le}
-use Rattle.valuation.proofs.Sharing.{part_of_le}
-use Rattle.settlement.specs.declared.agents.Agent.{Agent}
-use Rattle.settlement.specs.declared.lines.Class.{Class}
-use Rattle.settlement.specs.declared.lines.Class.TheVariants.{Normal, Obligated, Forced}
-use Rattle.settlement.specs.declared.lines.Line.{Line}
-use Rattle.settlement.specs.Hour.{excess_in, excess_on, is_obligated, is_forced, obligated_on, obligated_sum, caused_on, caused_sum, weight_at, weights_of, carried_by}
-use Rattle.settlement.specs.Limits.{most_excess}
-use Rattle.settlement.specs.Lines.{class_of, line_within, no_line}
-use Rattle.settlement.specs.Posting.{Posting, line_at}
-use Rattle.settlement.specs.PostingFaults.{PostingFits}
+use Rattle.valuation.proofs.{Amounts.excess_of_le, Sharing.part_of_le}
+use Rattle.settlement.specs.{declared.agents.Agent.Agent, declared.lines.Class.Class, declared.lines.Class.TheVariants.Normal, declared.lines.Class.TheVariants.Obligated, declared.lines.Class.TheVariants.Forced, declared.lines.Line.Line, Hour.excess_in, Hour.excess_on, Hour.is_obligated, Hour.is_forced, Hour.obligated_on, Hour.obligated_sum, Hour.caused_on, Hour.caused_sum, Hour.weight_at, Hour.weights_of, Hour.carried_by, Limits.most_excess, Lines.class_of, Lines.line_within, Lines.no_line, Posting.Posting, Posting.line_at, PostingFaults.PostingFits}
 use Rattle.tally.proofs.Numbers.{sum_to_le}
 
 -- the figures of a line are within their limits

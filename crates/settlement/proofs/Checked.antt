@@ -4,10 +4,7 @@ use Rattle.std.proofs.lemmas.Bool.{or_parts, not-false, eqb-true, leb-false, ltb
 use Rattle.tally.proofs.Failing.{each_passed}
 use Rattle.forms.specs.Limits.{most_agents}
 use Rattle.valuation.specs.Limits.{most_energy, most_price}
-use Rattle.settlement.specs.Lines.{line_within}
-use Rattle.settlement.specs.Posting.{Posting, line_at}
-use Rattle.settlement.specs.PostingFaults.{head_fault, limit_fault, kept_at, together_fault, line_faults, line_fault, injected_together, withdrawn_together, uncarried, posting_faults, posting_fault, PostingFits}
-use Rattle.settlement.specs.Setting.{Setting, hours_in}
+use Rattle.settlement.specs.{Lines.line_within, Posting.Posting, Posting.line_at, PostingFaults.head_fault, PostingFaults.limit_fault, PostingFaults.kept_at, PostingFaults.together_fault, PostingFaults.line_faults, PostingFaults.line_fault, PostingFaults.injected_together, PostingFaults.withdrawn_together, PostingFaults.uncarried, PostingFaults.posting_faults, PostingFaults.posting_fault, PostingFaults.PostingFits, Setting.Setting, Setting.hours_in}
 use Rattle.settlement.proofs.FaultTables.{unmet, NoneMet, first_met_none, mapped_none, of_posting_none}
 
 module _ (count : ℕ) (p : Posting) (head : None ≡ head_fault count p) where

@@ -1,25 +1,12 @@
 -- The legs of contracts that may stand: their size, what they add up to, and that forms that are alike give the same. Assumes nothing.
 use Rattle.std.proofs.Common.{◌≡◌, ℕ, ◌+◌, ◌-◌, ◌*◌, ◌<◌, ◌≤◌, Bool, true, false, not, cond, eqb, List, [], ◌∷◌, map, length, get_or, ℤ, pos, ◌+ℤ◌, nat_abs, Some, None, Option, sym, refl, ap, ◌∙◌, subst, inl, inr, arith}
 use Rattle.std.specs.List.{All, list_all}
-use Rattle.std.proofs.lemmas.Int.{ints}
-use Rattle.std.proofs.lemmas.Bool.{and_parts, cases_eq, cond-true, cond-false, cond_both, eq-eqb, ne_eqb}
-use Rattle.std.proofs.lemmas.List.Elements.{All-head, All-tail}
-use Rattle.std.proofs.lemmas.Slice.Zip.{get_or-zip}
+use Rattle.std.proofs.lemmas.{Int.ints, Bool.and_parts, Bool.cases_eq, Bool.cond-true, Bool.cond-false, Bool.cond_both, Bool.eq-eqb, Bool.ne_eqb, List.Elements.All-head, List.Elements.All-tail, Slice.Zip.get_or-zip}
 use Rattle.calendar.specs.Limits.{most_days}
 use Rattle.tally.specs.Sums.{sum_to_ℤ}
-use Rattle.tally.proofs.Numbers.{sum_to_ℤ_change, sum_to_ℤ_const_zero, sum_to_ℤ_add, int_sum_by_same, int_sum_by_zero, int_sum_by_abs, int_sum_over_by}
-use Rattle.tally.proofs.Sums.{All-passing}
-use Rattle.forms.specs.declared.Contract.{Contract}
-use Rattle.forms.specs.declared.Legs.{Legs}
-use Rattle.forms.specs.Limits.{most_leg}
-use Rattle.forms.specs.Meaning.{Meaning, MayAsk, Balanced, Keeps, Alike}
-use Rattle.forms.specs.Parties.{party_numbers, points_of, points_together, legs_by_party}
-use Rattle.forms.specs.Terms.{numbers_apart}
-use Rattle.settlement.specs.ContractFaults.{parties_of, PartiesKnown, contract_fits, place_fits, covers}
-use Rattle.settlement.specs.Legs.{facts_of, legs_of, is_number, given_to, given_in, contract_points_of, contract_line}
-use Rattle.settlement.specs.Posting.{Posting}
-use Rattle.settlement.specs.PostingFaults.{PostingFits}
-use Rattle.settlement.specs.Setting.{Setting}
+use Rattle.tally.proofs.{Numbers.sum_to_ℤ_change, Numbers.sum_to_ℤ_const_zero, Numbers.sum_to_ℤ_add, Numbers.int_sum_by_same, Numbers.int_sum_by_zero, Numbers.int_sum_by_abs, Numbers.int_sum_over_by, Sums.All-passing}
+use Rattle.forms.specs.{declared.Contract.Contract, declared.Legs.Legs, Limits.most_leg, Meaning.Meaning, Meaning.MayAsk, Meaning.Balanced, Meaning.Keeps, Meaning.Alike, Parties.party_numbers, Parties.points_of, Parties.points_together, Parties.legs_by_party, Terms.numbers_apart}
+use Rattle.settlement.specs.{ContractFaults.parties_of, ContractFaults.PartiesKnown, ContractFaults.contract_fits, ContractFaults.place_fits, ContractFaults.covers, Legs.facts_of, Legs.legs_of, Legs.is_number, Legs.given_to, Legs.given_in, Legs.contract_points_of, Legs.contract_line, Posting.Posting, PostingFaults.PostingFits, Setting.Setting}
 use Rattle.settlement.proofs.Settles.{fitting, settles}
 
 -- ---- legs by party

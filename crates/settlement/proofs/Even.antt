@@ -1,35 +1,15 @@
 -- What an hour gives all agents together: it comes out even. Assumes nothing.
 use Rattle.std.proofs.Common.{◌≡◌, ℕ, ◌+◌, ◌-◌, ◌<◌, ◌≤◌, Bool, true, false, cond, ◌&&◌, eqb, ltb, leb, ◌⊎◌, List, length, pos, neg_ℤ, Some, None, sum, Option, sym, refl, ap, ◌∙◌, subst, inl, inr, eq-zero-or-pos, arith}
 use Rattle.std.specs.List.{list_all}
-use Rattle.std.proofs.lemmas.List.FromFn.{length-map-range_with_len}
-use Rattle.std.proofs.lemmas.Int.{ints}
-use Rattle.std.proofs.lemmas.Bool.{false≢true, and_parts, and_cases, leb-true, ltb-false, eq-eqb, ne_eqb, eqb-false, cond-true, cond-false}
+use Rattle.std.proofs.lemmas.{List.FromFn.length-map-range_with_len, Int.ints, Bool.false≢true, Bool.and_parts, Bool.and_cases, Bool.leb-true, Bool.ltb-false, Bool.eq-eqb, Bool.ne_eqb, Bool.eqb-false, Bool.cond-true, Bool.cond-false}
 use Rattle.valuation.specs.Sharing.{part_of}
 use Rattle.valuation.proofs.Sharing.{sum-parts_of, part_of_no_points}
-use Rattle.settlement.specs.declared.agents.Agent.{Agent}
-use Rattle.forms.specs.declared.roles.Role.{Role}
-use Rattle.settlement.specs.declared.lines.Class.{Class}
-use Rattle.settlement.specs.declared.lines.Class.TheVariants.{Normal, Obligated, Forced}
-use Rattle.settlement.specs.declared.lines.Line.{Line}
-use Rattle.settlement.specs.Agents.{role_at}
-use Rattle.settlement.specs.Hour.{injected_amount, withdrawn_amount, market_line, excess_in, excess_on, is_obligated, is_forced, obligated_on, obligated_sum, caused_on, caused_sum, weight_at, weights_of, carried_by, overcost_line, residue_of}
-use Rattle.settlement.specs.Lines.{class_of, must_run, class_kept}
-use Rattle.settlement.specs.Posting.{Posting, line_at}
-use Rattle.settlement.specs.PostingFaults.{kept_at, uncarried}
+use Rattle.settlement.specs.{declared.agents.Agent.Agent, declared.lines.Class.Class, declared.lines.Class.TheVariants.Normal, declared.lines.Class.TheVariants.Obligated, declared.lines.Class.TheVariants.Forced, declared.lines.Line.Line, Agents.role_at, Hour.injected_amount, Hour.withdrawn_amount, Hour.market_line, Hour.excess_in, Hour.excess_on, Hour.is_obligated, Hour.is_forced, Hour.obligated_on, Hour.obligated_sum, Hour.caused_on, Hour.caused_sum, Hour.weight_at, Hour.weights_of, Hour.carried_by, Hour.overcost_line, Hour.residue_of, Lines.class_of, Lines.must_run, Lines.class_kept, Posting.Posting, Posting.line_at, PostingFaults.kept_at, PostingFaults.uncarried, ContractFaults.place_fits, Legs.hour_of, Setting.Setting, Setting.count_in}
+use Rattle.forms.specs.{declared.roles.Role.Role, Meaning.Keeps}
 use Rattle.calendar.specs.Limits.{most_days}
-use Rattle.tally.specs.declared.money.MoneyLine.{MoneyLine}
-use Rattle.tally.specs.declared.money.MoneyLine.TheVariants.{Market, Contract, Overcost, Power}
-use Rattle.tally.specs.Lines.{Lines, line_on, no_lines}
-use Rattle.tally.specs.LinesLaws.{lines_same}
-use Rattle.tally.specs.Sums.{sum_to, sum_to_ℤ, lines_over}
-use Rattle.tally.proofs.Lines.{line_on-over}
-use Rattle.tally.proofs.Numbers.{sum_to_same, sum_to_change, sum_to_const_zero, sum_to_zero, sum_to_add, sum_to_swap, sum_to_ℤ_const_zero, sum_to_ℤ_less, sum_counting}
-use Rattle.forms.specs.Meaning.{Keeps}
-use Rattle.settlement.specs.ContractFaults.{place_fits}
-use Rattle.settlement.specs.Legs.{hour_of}
-use Rattle.settlement.specs.Setting.{Setting, count_in}
-use Rattle.settlement.proofs.Checked.{Checked}
-use Rattle.settlement.proofs.ContractLines.{contract_lines_together}
+use Rattle.tally.specs.{declared.money.MoneyLine.MoneyLine, declared.money.MoneyLine.TheVariants.Market, declared.money.MoneyLine.TheVariants.Contract, declared.money.MoneyLine.TheVariants.Overcost, declared.money.MoneyLine.TheVariants.Power, Lines.Lines, Lines.line_on, Lines.no_lines, LinesLaws.lines_same, Sums.sum_to, Sums.sum_to_ℤ, Sums.lines_over}
+use Rattle.tally.proofs.{Lines.line_on-over, Numbers.sum_to_same, Numbers.sum_to_change, Numbers.sum_to_const_zero, Numbers.sum_to_zero, Numbers.sum_to_add, Numbers.sum_to_swap, Numbers.sum_to_ℤ_const_zero, Numbers.sum_to_ℤ_less, Numbers.sum_counting}
+use Rattle.settlement.proofs.{Checked.Checked, ContractLines.contract_lines_together}
 
 -- ---- the excess of a line
 

@@ -3,8 +3,7 @@ use Rattle.std.proofs.Common.{◌≡◌, Bool, true, false, not, List, [], ◌�
 use Rattle.std.specs.Prelude.{is_none}
 use Rattle.std.specs.Option.{option_map}
 use Rattle.std.proofs.lemmas.Bool.{not-false}
-use Rattle.settlement.specs.declared.faults.LineFault.{LineFault}
-use Rattle.settlement.specs.Faults.{met_if, first_met, of_posting}
+use Rattle.settlement.specs.{declared.faults.LineFault.LineFault, Faults.met_if, Faults.first_met, Faults.of_posting}
 
 -- a fault that is not met: its test failed
 pub unmet : {F : Type 0} (test : Bool) (fault : F) → None ≡ met_if test fault → test ≡ false

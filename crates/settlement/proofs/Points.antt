@@ -1,18 +1,10 @@
 -- Points put on a contract line: none, several, and on the entry of a posting's own lines. Assumes nothing.
 use Rattle.std.proofs.Common.{◌≡◌, ℕ, ◌+◌, ◌-◌, ◌<◌, ◌≤◌, cond, eqb, List, length, get_or, set, ℤ, pos, ◌+ℤ◌, sym, ap, ◌∙◌, inl, inr, arith}
 use lib.IntN.{+ℤ_idl}
-use Rattle.std.proofs.lemmas.List.{get_or-set_same, get_or-set_other}
-use Rattle.std.proofs.lemmas.Bool.{cases_eq, cond-true, cond-false, eq-eqb, ne_eqb}
-use Rattle.tally.specs.declared.money.MoneyLine.TheVariants.{Contract}
-use Rattle.tally.specs.Lines.{Lines, alone}
-use Rattle.tally.specs.Money.{money_of, no_money, money_joined}
-use Rattle.tally.specs.Energy.{no_energy, energy_joined}
-use Rattle.tally.specs.MoneyLaws.{money_lawful, money_of_joined}
-use Rattle.tally.specs.EnergyLaws.{energy_lawful}
-use Rattle.tally.proofs.Lines.{contract-joined}
-use Rattle.tally.proofs.PairLaws.{pair_same}
-use Rattle.settlement.specs.Holdings.{Holding, no_holding, with_points, entry_of}
-use Rattle.settlement.specs.Hour.{Figures}
+use Rattle.std.proofs.lemmas.{List.get_or-set_same, List.get_or-set_other, Bool.cases_eq, Bool.cond-true, Bool.cond-false, Bool.eq-eqb, Bool.ne_eqb}
+use Rattle.tally.specs.{declared.money.MoneyLine.TheVariants.Contract, Lines.Lines, Lines.alone, Money.money_of, Money.no_money, Money.money_joined, Energy.no_energy, Energy.energy_joined, MoneyLaws.money_lawful, MoneyLaws.money_of_joined, EnergyLaws.energy_lawful}
+use Rattle.tally.proofs.{Lines.contract-joined, PairLaws.pair_same}
+use Rattle.settlement.specs.{Holdings.Holding, Holdings.no_holding, Holdings.with_points, Holdings.entry_of, Hour.Figures}
 
 -- no points change nothing
 pub points_none : (h : Holding) → with_points (pos 0) h ≡ h

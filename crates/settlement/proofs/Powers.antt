@@ -3,11 +3,8 @@ use Rattle.std.proofs.Common.{◌≡◌, ℕ, ◌<◌, ◌≤◌, List, length, 
 use Rattle.std.proofs.lemmas.List.FromFn.{length-map-range_with_len}
 use Rattle.valuation.specs.Sharing.{parts_of}
 use Rattle.valuation.proofs.Sharing.{part_of_le, slice_index_or-parts_of}
-use Rattle.settlement.specs.declared.agents.Agent.{Agent}
+use Rattle.settlement.specs.{declared.agents.Agent.Agent, Agents.agent_at, Holdings.Holding, Holdings.no_holding, Holdings.withdrawn_on, Holdings.all_withdrawn, Power.power_due, Power.power_weight, Power.power_weights, Power.power_part}
 use Rattle.forms.specs.Roles.{carries}
-use Rattle.settlement.specs.Agents.{agent_at}
-use Rattle.settlement.specs.Holdings.{Holding, no_holding, withdrawn_on, all_withdrawn}
-use Rattle.settlement.specs.Power.{power_due, power_weight, power_weights, power_part}
 use Rattle.tally.specs.Sums.{sum_to}
 use Rattle.settlement.proofs.Sharing.{counted_le}
 use Rattle.tally.proofs.Numbers.{sum_to_mono, sum_by_list, sum_counting}

@@ -1,31 +1,12 @@
 -- A contract that may stand, in an hour whose posting fits, may be asked of its form by the facts of that hour. Assumes nothing.
 use Rattle.std.proofs.Common.{◌≡◌, ℕ, ◌+◌, ◌-◌, ◌<◌, ◌≤◌, Bool, true, false, cond, ◌&&◌, leb, List, length, refl, arith}
 use Rattle.std.specs.List.{list_all}
-use Rattle.std.proofs.lemmas.Bool.{and_parts, leb-true, le-leb, cond-true, cond-false}
-use Rattle.std.proofs.lemmas.List.Elements.{All-weaker}
-use Rattle.std.proofs.lemmas.List.Sums.{AllPass-from_list_all}
+use Rattle.std.proofs.lemmas.{Bool.and_parts, Bool.leb-true, Bool.le-leb, Bool.cond-true, Bool.cond-false, List.Elements.All-weaker, List.Sums.AllPass-from_list_all}
 use Rattle.calendar.specs.Limits.{most_days}
-use Rattle.forms.specs.declared.Contract.{Contract}
-use Rattle.forms.specs.declared.Facts.{Facts}
-use Rattle.forms.specs.declared.Parties.{Parties}
-use Rattle.forms.specs.Known.{valid_of, measured_of, hours_fit_longest}
-use Rattle.forms.specs.Meaning.{MayAsk}
-use Rattle.forms.specs.Measured.{prices_fit, withdrawn_fits, Measured}
-use Rattle.forms.specs.Parties.{party_numbers}
-use Rattle.forms.specs.Roles.{distributes, has_role}
-use Rattle.forms.specs.Terms.{Valid, number_fits, numbers_apart, parties_fit, hours_fit, figures_fit}
+use Rattle.forms.specs.{declared.Contract.Contract, declared.Facts.Facts, declared.Parties.Parties, Known.valid_of, Known.measured_of, Known.hours_fit_longest, Meaning.MayAsk, Measured.prices_fit, Measured.withdrawn_fits, Measured.Measured, Parties.party_numbers, Roles.distributes, Roles.has_role, Terms.Valid, Terms.number_fits, Terms.numbers_apart, Terms.parties_fit, Terms.hours_fit, Terms.figures_fit}
 use Rattle.valuation.specs.Limits.{most_energy, most_price, least_factor, most_factor}
-use Rattle.settlement.specs.declared.agents.Agent.{Agent}
-use Rattle.settlement.specs.declared.lines.Line.{Line}
-use Rattle.settlement.specs.Agents.{agent_at, counted}
-use Rattle.settlement.specs.ContractFaults.{parties_of, in_book, PartiesKnown, contract_faults, contract_fault, contract_fits}
-use Rattle.settlement.specs.Legs.{distributors_withdrawn, facts_of}
-use Rattle.settlement.specs.Posting.{Posting, line_at}
-use Rattle.settlement.specs.PostingFaults.{withdrawn_together, PostingFits}
-use Rattle.settlement.specs.Setting.{Setting, hours_in}
-use Rattle.settlement.proofs.Bounds.{within_limits}
-use Rattle.settlement.proofs.FaultTables.{kept, NoneMet, first_met_none, none_is}
-use Rattle.settlement.proofs.Sharing.{counted_le}
+use Rattle.settlement.specs.{declared.agents.Agent.Agent, declared.lines.Line.Line, Agents.agent_at, Agents.counted, ContractFaults.parties_of, ContractFaults.in_book, ContractFaults.PartiesKnown, ContractFaults.contract_faults, ContractFaults.contract_fault, ContractFaults.contract_fits, Legs.distributors_withdrawn, Legs.facts_of, Posting.Posting, Posting.line_at, PostingFaults.withdrawn_together, PostingFaults.PostingFits, Setting.Setting, Setting.hours_in}
+use Rattle.settlement.proofs.{Bounds.within_limits, FaultTables.kept, FaultTables.NoneMet, FaultTables.first_met_none, FaultTables.none_is, Sharing.counted_le}
 use Rattle.tally.proofs.Numbers.{sum_to_mono, sum_to_item_le, sum_to_spare}
 
 -- ---- a contract that may stand

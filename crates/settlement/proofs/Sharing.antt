@@ -1,13 +1,7 @@
 -- Energy that counts by roles, and the weights of an hour's sharing. Assumes nothing.
 use Rattle.std.proofs.Common.{ℕ, ◌≤◌, Bool, true, false, cond, List, length, sum, arith}
-use Rattle.forms.specs.declared.roles.Role.{Role}
-use Rattle.forms.specs.Roles.{carries, has_role}
-use Rattle.settlement.specs.declared.agents.Agent.{Agent}
-use Rattle.settlement.specs.declared.lines.Line.{Line}
-use Rattle.settlement.specs.Agents.{agent_at, counted}
-use Rattle.settlement.specs.Hour.{weight_at, weights_of}
-use Rattle.settlement.specs.Posting.{line_at}
-use Rattle.settlement.specs.PostingFaults.{withdrawn_together}
+use Rattle.forms.specs.{declared.roles.Role.Role, Roles.carries, Roles.has_role}
+use Rattle.settlement.specs.{declared.agents.Agent.Agent, declared.lines.Line.Line, Agents.agent_at, Agents.counted, Hour.weight_at, Hour.weights_of, Posting.line_at, PostingFaults.withdrawn_together}
 use Rattle.tally.proofs.Numbers.{sum_to_mono, sum_counting}
 
 -- what counts is at most all of it

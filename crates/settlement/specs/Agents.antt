@@ -1,10 +1,8 @@
 -- The agents of a book, counted from 0. Assumes nothing.
 use Rattle.std.specs.Prelude.{ℕ, Bool, if◌then◌else◌, ◌&&◌, ◌||◌, List, is_some, Option, ◌==◌, nat_le, slice_index_or}
-use Rattle.forms.specs.declared.roles.Role.{Role}
-use Rattle.forms.specs.Roles.{role_of, generates, has_role}
+use Rattle.forms.specs.{declared.roles.Role.Role, Roles.role_of, Roles.generates, Roles.has_role}
 use Rattle.valuation.specs.Limits.{most_energy}
-use Rattle.settlement.specs.declared.agents.Agent.{Agent}
-use Rattle.settlement.specs.Limits.{most_power}
+use Rattle.settlement.specs.{declared.agents.Agent.Agent, Limits.most_power}
 
 -- an agent's figures are within their limits: it has a role, a capacity and a remunerable power, which is 0 unless it generates
 abbrev pub agent_fits : Agent → Bool

@@ -1,20 +1,9 @@
 -- Contracts in a book: their parties, which of them may stand, and the faults of entering and cancelling one. Assumes nothing.
 use Rattle.std.specs.Prelude.{ℕ, ◌+◌, ◌-◌, ◌≤◌, Bool, true, not, ◌&&◌, ◌||◌, List, [], ◌∷◌, length, is_some, is_none, Some, None, Option, nat_le, slice_index_or, All}
-use Rattle.std.specs.List.{list_all}
-use Rattle.std.specs.Option.{option_map}
+use Rattle.std.specs.{List.list_all, Option.option_map}
 use Rattle.tally.specs.Failing.{first_failing}
-use Rattle.forms.specs.declared.Contract.{Contract}
-use Rattle.forms.specs.declared.Parties.{Parties}
-use Rattle.forms.specs.declared.Party.{Party}
-use Rattle.forms.specs.Limits.{most_contracts}
-use Rattle.forms.specs.Parties.{party_numbers}
-use Rattle.forms.specs.Terms.{parties_fit, hours_fit, figures_fit}
-use Rattle.settlement.specs.declared.agents.Agent.{Agent}
-use Rattle.settlement.specs.declared.faults.BookFault.{BookFault}
-use Rattle.settlement.specs.declared.faults.BookFault.TheVariants.{ContractNumber, ContractTerms, CoveredHour}
-use Rattle.settlement.specs.Agents.{agent_at}
-use Rattle.settlement.specs.Faults.{met_if, first_met}
-use Rattle.settlement.specs.Setting.{Setting, hours_in}
+use Rattle.forms.specs.{declared.Contract.Contract, declared.Parties.Parties, declared.Party.Party, Limits.most_contracts, Parties.party_numbers, Terms.parties_fit, Terms.hours_fit, Terms.figures_fit}
+use Rattle.settlement.specs.{declared.agents.Agent.Agent, declared.faults.BookFault.BookFault, declared.faults.BookFault.TheVariants.ContractNumber, declared.faults.BookFault.TheVariants.ContractTerms, declared.faults.BookFault.TheVariants.CoveredHour, Agents.agent_at, Faults.met_if, Faults.first_met, Setting.Setting, Setting.hours_in}
 
 -- an agent as a party to a contract: its role and its capacity
 abbrev pub party_of : Agent → Party

@@ -1,10 +1,7 @@
 -- The faults by number and place, and how one of several is answered. Assumes nothing.
 use Rattle.std.specs.Prelude.{ℕ, Bool, if◌then◌else◌, List, [], ◌∷◌, Some, None, Ok, Err, Option, Result}
 use Rattle.packets.specs.Faults.{number_of as byte_number, place_of as byte_place}
-use Rattle.settlement.specs.declared.faults.LineFault.{LineFault}
-use Rattle.settlement.specs.declared.faults.LineFault.TheVariants.{Packet, HourOutside, OutsideLimit, BreaksRule, TooMuchTogether}
-use Rattle.settlement.specs.declared.faults.BookFault.{BookFault}
-use Rattle.settlement.specs.declared.faults.BookFault.TheVariants.{WrongSize, StoredOutside, OutsideBook, Posting, NoCarrier, FreeHour, MissingHour, NoPowerCarrier, ContractNumber, ContractTerms, CoveredHour}
+use Rattle.settlement.specs.declared.faults.{LineFault.LineFault, LineFault.TheVariants.Packet, LineFault.TheVariants.HourOutside, LineFault.TheVariants.OutsideLimit, LineFault.TheVariants.BreaksRule, LineFault.TheVariants.TooMuchTogether, BookFault.BookFault, BookFault.TheVariants.WrongSize, BookFault.TheVariants.StoredOutside, BookFault.TheVariants.OutsideBook, BookFault.TheVariants.Posting, BookFault.TheVariants.NoCarrier, BookFault.TheVariants.FreeHour, BookFault.TheVariants.MissingHour, BookFault.TheVariants.NoPowerCarrier, BookFault.TheVariants.ContractNumber, BookFault.TheVariants.ContractTerms, BookFault.TheVariants.CoveredHour}
 
 -- the number of a fault in a posting's bytes or its own figures
 abbrev pub line_number : LineFault → ℕ

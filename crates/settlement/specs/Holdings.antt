@@ -1,15 +1,7 @@
 -- Accounts and entries: money and energy together. Assumes nothing.
 use Rattle.std.specs.Prelude.{◌≡◌, ℕ, ◌<◌, List, map, length, ℤ, sum_by, slice_index_or}
 use Rattle.std.specs.List.{range_with_len}
-use Rattle.tally.specs.declared.money.Money.{Money}
-use Rattle.tally.specs.declared.money.MoneyLine.{MoneyLine}
-use Rattle.tally.specs.declared.money.MoneyLine.TheVariants.{Contract, Power}
-use Rattle.tally.specs.declared.energy.Energy.{Energy}
-use Rattle.tally.specs.declared.pair.Pair.{Pair}
-use Rattle.tally.specs.Lines.{alone}
-use Rattle.tally.specs.Money.{money_of, no_money, money_joined, money_undone}
-use Rattle.tally.specs.Energy.{energy_of, no_energy, energy_joined, energy_undone}
-use Rattle.tally.specs.Pair.{pair_of, pair_joined, pair_undone}
+use Rattle.tally.specs.{declared.money.Money.Money, declared.money.MoneyLine.MoneyLine, declared.money.MoneyLine.TheVariants.Contract, declared.money.MoneyLine.TheVariants.Power, declared.energy.Energy.Energy, declared.pair.Pair.Pair, Lines.alone, Money.money_of, Money.no_money, Money.money_joined, Money.money_undone, Energy.energy_of, Energy.no_energy, Energy.energy_joined, Energy.energy_undone, Pair.pair_of, Pair.pair_joined, Pair.pair_undone}
 use Rattle.settlement.specs.Hour.{Figures}
 
 -- an account, and an entry, hold money and energy

@@ -1,19 +1,10 @@
 -- What a posting's own lines give each agent at its hour. Agents and lines are counted from 0. Assumes nothing.
 use Rattle.std.specs.Prelude.{ℕ, ◌+◌, Bool, true, false, if◌then◌else◌, ◌&&◌, List, map, length, ℤ, pos, ◌-ℤ◌, Some, None, Option, ◌==◌}
 use Rattle.std.specs.List.{range_with_len}
-use Rattle.valuation.specs.Amounts.{amount_of}
-use Rattle.valuation.specs.Excess.{excess_of}
-use Rattle.valuation.specs.Sharing.{part_of}
-use Rattle.tally.specs.Lines.{Lines, no_lines}
+use Rattle.valuation.specs.{Amounts.amount_of, Excess.excess_of, Sharing.part_of}
+use Rattle.tally.specs.{Lines.Lines, Lines.no_lines, Sums.sum_to}
 use Rattle.forms.specs.Roles.{carries}
-use Rattle.settlement.specs.declared.agents.Agent.{Agent}
-use Rattle.settlement.specs.declared.lines.Class.{Class}
-use Rattle.settlement.specs.declared.lines.Class.TheVariants.{Normal, Obligated, Forced}
-use Rattle.settlement.specs.declared.lines.Line.{Line}
-use Rattle.settlement.specs.Agents.{agent_at, counted}
-use Rattle.settlement.specs.Lines.{class_of}
-use Rattle.settlement.specs.Posting.{Posting, line_at}
-use Rattle.tally.specs.Sums.{sum_to}
+use Rattle.settlement.specs.{declared.agents.Agent.Agent, declared.lines.Class.Class, declared.lines.Class.TheVariants.Normal, declared.lines.Class.TheVariants.Obligated, declared.lines.Class.TheVariants.Forced, declared.lines.Line.Line, Agents.agent_at, Agents.counted, Lines.class_of, Posting.Posting, Posting.line_at}
 
 -- what the injected energy of a line is worth, at its node and the hour's price
 abbrev pub injected_amount : (price : ℕ) → Line → ℕ

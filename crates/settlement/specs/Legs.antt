@@ -1,21 +1,9 @@
 -- What contracts put on their parties' contract lines in an hour, and so all that it gives. Agents are counted from 0. Assumes nothing.
 use Rattle.std.specs.Prelude.{ℕ, ◌+◌, ◌-◌, Bool, if◌then◌else◌, List, length, ℤ, pos, Some, None, Option, ◌==◌}
-use Rattle.tally.specs.Sums.{int_sum_by}
+use Rattle.tally.specs.Sums.{int_sum_by, sum_to}
 use Rattle.calendar.specs.Calendar.{band_in}
-use Rattle.forms.specs.declared.Contract.{Contract}
-use Rattle.forms.specs.declared.Facts.{Facts}
-use Rattle.forms.specs.declared.Legs.{Legs}
-use Rattle.forms.specs.Meaning.{hour_legs}
-use Rattle.forms.specs.Parties.{legs_by_party}
-use Rattle.forms.specs.Roles.{distributes}
-use Rattle.settlement.specs.declared.agents.Agent.{Agent}
-use Rattle.settlement.specs.declared.lines.Line.{Line}
-use Rattle.settlement.specs.Agents.{agent_at, counted}
-use Rattle.settlement.specs.ContractFaults.{parties_of, covers}
-use Rattle.settlement.specs.Hour.{caused_sum, carried_by, Figures, figures_with}
-use Rattle.settlement.specs.Posting.{Posting, line_at}
-use Rattle.settlement.specs.Setting.{Setting}
-use Rattle.tally.specs.Sums.{sum_to}
+use Rattle.forms.specs.{declared.Contract.Contract, declared.Facts.Facts, declared.Legs.Legs, Meaning.hour_legs, Parties.legs_by_party, Roles.distributes}
+use Rattle.settlement.specs.{declared.agents.Agent.Agent, declared.lines.Line.Line, Agents.agent_at, Agents.counted, ContractFaults.parties_of, ContractFaults.covers, Hour.caused_sum, Hour.carried_by, Hour.Figures, Hour.figures_with, Posting.Posting, Posting.line_at, Setting.Setting}
 
 -- the energy that the agent at a place withdrew, if it is a distributor
 abbrev pub distributed_at : List Agent → List Line → ℕ → ℕ

@@ -1,10 +1,7 @@
 -- The lines of a posting: their limits and their rules. Assumes nothing.
 use Rattle.std.specs.Prelude.{ℕ, Bool, false, if◌then◌else◌, ◌&&◌, Some, None, Option, ◌==◌, nat_le}
-use Rattle.forms.specs.declared.roles.Role.{Role}
-use Rattle.settlement.specs.declared.lines.Class.{Class}
-use Rattle.settlement.specs.declared.lines.Class.TheVariants.{Normal, Obligated, Forced}
-use Rattle.settlement.specs.declared.lines.Line.{Line}
-use Rattle.forms.specs.Roles.{generates}
+use Rattle.forms.specs.{declared.roles.Role.Role, Roles.generates}
+use Rattle.settlement.specs.declared.lines.{Class.Class, Class.TheVariants.Normal, Class.TheVariants.Obligated, Class.TheVariants.Forced, Line.Line}
 use Rattle.valuation.specs.Limits.{most_energy, most_price, least_factor, most_factor}
 
 -- 1 is normal, 2 obligated, 3 forced

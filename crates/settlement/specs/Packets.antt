@@ -1,15 +1,7 @@
 -- The posting that an hour packet says. Assumes nothing.
 use Rattle.std.specs.Prelude.{ℕ, List, map, take, Ok, Err, Result}
-use Rattle.packets.specs.declared.faults.ByteFault.{ByteFault}
-use Rattle.packets.specs.declared.hours.PacketLine.{PacketLine}
-use Rattle.packets.specs.Formats.{and_then}
-use Rattle.packets.specs.Hours.{PacketHour}
-use Rattle.packets.specs.HourPackets.{hour_in}
-use Rattle.settlement.specs.declared.faults.LineFault.{LineFault}
-use Rattle.settlement.specs.declared.faults.LineFault.TheVariants.{Packet}
-use Rattle.settlement.specs.declared.lines.Line.{Line}
-use Rattle.settlement.specs.declared.packet_postings.PacketPosting.{PacketPosting}
-use Rattle.settlement.specs.Posting.{Posting}
+use Rattle.packets.specs.{declared.faults.ByteFault.ByteFault, declared.hours.PacketLine.PacketLine, Formats.and_then, Hours.PacketHour, HourPackets.hour_in}
+use Rattle.settlement.specs.{declared.faults.LineFault.LineFault, declared.faults.LineFault.TheVariants.Packet, declared.lines.Line.Line, declared.packet_postings.PacketPosting.PacketPosting, Posting.Posting}
 
 -- the line of a posting that the line of a packet says
 abbrev pub line_in : PacketLine → Line

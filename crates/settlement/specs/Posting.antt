@@ -1,8 +1,6 @@
 -- A posting: an hour, its price and its lines, one for each agent, counted from 0. Assumes nothing.
 use Rattle.std.specs.Prelude.{ℕ, List, slice_index_or}
-use Rattle.settlement.specs.declared.lines.Line.{Line}
-use Rattle.settlement.specs.declared.postings.Posting.{Posting as LentPosting}
-use Rattle.settlement.specs.Lines.{no_line}
+use Rattle.settlement.specs.{declared.lines.Line.Line, declared.postings.Posting.Posting as LentPosting, Lines.no_line}
 
 pub record Posting : Type 0 where
   pub hour : ℕ

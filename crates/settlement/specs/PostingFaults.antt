@@ -1,22 +1,10 @@
 -- The faults of a posting's own figures, against the agents and the length of the month. Assumes nothing.
 use Rattle.std.specs.Prelude.{◌≡◌, ℕ, ◌+◌, ◌<◌, ◌≤◌, Bool, true, not, ◌&&◌, ◌||◌, List, [], ◌∷◌, length, sum, Option, ◌==◌, nat_le, nat_lt}
 use Rattle.std.specs.Option.{option_map}
-use Rattle.tally.specs.Failing.{first_failing}
+use Rattle.tally.specs.{Failing.first_failing, Sums.sum_to}
 use Rattle.forms.specs.Limits.{most_agents}
 use Rattle.valuation.specs.Limits.{most_energy, most_price}
-use Rattle.settlement.specs.declared.agents.Agent.{Agent}
-use Rattle.settlement.specs.declared.faults.BookFault.{BookFault}
-use Rattle.settlement.specs.declared.faults.BookFault.TheVariants.{NoCarrier}
-use Rattle.settlement.specs.declared.faults.LineFault.{LineFault}
-use Rattle.settlement.specs.declared.faults.LineFault.TheVariants.{HourOutside, OutsideLimit, BreaksRule, TooMuchTogether}
-use Rattle.settlement.specs.declared.lines.Line.{Line}
-use Rattle.settlement.specs.Agents.{role_at}
-use Rattle.settlement.specs.Faults.{met_if, first_met, of_posting}
-use Rattle.settlement.specs.Hour.{obligated_sum, weights_of}
-use Rattle.settlement.specs.Lines.{line_within, line_kept}
-use Rattle.settlement.specs.Posting.{Posting, line_at}
-use Rattle.settlement.specs.Setting.{Setting, hours_in, count_in}
-use Rattle.tally.specs.Sums.{sum_to}
+use Rattle.settlement.specs.{declared.agents.Agent.Agent, declared.faults.BookFault.BookFault, declared.faults.BookFault.TheVariants.NoCarrier, declared.faults.LineFault.LineFault, declared.faults.LineFault.TheVariants.HourOutside, declared.faults.LineFault.TheVariants.OutsideLimit, declared.faults.LineFault.TheVariants.BreaksRule, declared.faults.LineFault.TheVariants.TooMuchTogether, declared.lines.Line.Line, Agents.role_at, Faults.met_if, Faults.first_met, Faults.of_posting, Hour.obligated_sum, Hour.weights_of, Lines.line_within, Lines.line_kept, Posting.Posting, Posting.line_at, Setting.Setting, Setting.hours_in, Setting.count_in}
 
 -- 4: the hour lies outside a month of so many hours
 abbrev pub hour_fault : (hours hour : ℕ) → Option LineFault

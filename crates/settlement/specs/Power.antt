@@ -2,11 +2,7 @@
 use Rattle.std.specs.Prelude.{ℕ, ◌*◌, Bool, ◌&&◌, List, map, length, ℤ, pos, ◌-ℤ◌, sum, ◌==◌, nat_lt, slice_index_or}
 use Rattle.forms.specs.Roles.{carries}
 use Rattle.valuation.specs.Sharing.{part_of}
-use Rattle.settlement.specs.declared.agents.Agent.{Agent}
-use Rattle.settlement.specs.Agents.{agent_at, counted}
-use Rattle.settlement.specs.Holdings.{Holding, no_holding, holding_joined, withdrawn_on, power_points}
-use Rattle.settlement.specs.Hour.{weights_in}
-use Rattle.settlement.specs.Limits.{points_per_kw}
+use Rattle.settlement.specs.{declared.agents.Agent.Agent, Agents.agent_at, Agents.counted, Holdings.Holding, Holdings.no_holding, Holdings.holding_joined, Holdings.withdrawn_on, Holdings.power_points, Hour.weights_in, Limits.points_per_kw}
 use Rattle.std.specs.List.{range_with_len}
 use Rattle.tally.specs.Sums.{sum_to}
 

@@ -1,11 +1,8 @@
 -- What the hours of a month are settled with. Assumes nothing.
 use Rattle.std.specs.Prelude.{ℕ, List, length, Option}
-use Rattle.calendar.specs.Limits.{hours_of}
-use Rattle.calendar.specs.declared.calendars.Calendar.{Calendar}
-use Rattle.forms.specs.declared.Contract.{Contract}
-use Rattle.forms.specs.Meaning.{Meaning}
-use Rattle.settlement.specs.declared.agents.Agent.{Agent}
-use Rattle.settlement.specs.declared.settings.Setting.{Setting as LentSetting}
+use Rattle.calendar.specs.{Limits.hours_of, declared.calendars.Calendar.Calendar}
+use Rattle.forms.specs.{declared.Contract.Contract, Meaning.Meaning}
+use Rattle.settlement.specs.declared.{agents.Agent.Agent, settings.Setting.Setting as LentSetting}
 
 -- the form that contracts are asked of, the month's calendar and its days, the agents, and the contract places
 pub record Setting : Type 0 where

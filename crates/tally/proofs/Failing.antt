@@ -1,10 +1,7 @@
 -- The first place that fails a test, looked for place by place, and lists that pass one whole. Assumes nothing.
 use Rattle.std.proofs.Common.{◌≡◌, ℕ, zero, suc, ◌+◌, ◌-◌, ◌<◌, ◌≤◌, Bool, true, false, not, cond, List, [], ◌∷◌, length, get_or, Some, None, Option, position, sym, refl, ap, ◌∙◌, inl, inr, arith}
 use Rattle.std.specs.List.{list_all, position_from}
-use Rattle.std.proofs.lemmas.Bool.{cases_eq}
-use Rattle.std.proofs.lemmas.Iterator.Adapters.{position_from-zero}
-use Rattle.std.proofs.lemmas.List.Elements.{All-get_or}
-use Rattle.std.proofs.lemmas.List.Sums.{AllPass-from_list_all}
+use Rattle.std.proofs.lemmas.{Bool.cases_eq, Iterator.Adapters.position_from-zero, List.Elements.All-get_or, List.Sums.AllPass-from_list_all}
 use Rattle.tally.specs.Failing.{first_failing}
 
 -- each item of a list that passes whole passes

@@ -2,18 +2,8 @@
 use Rattle.std.proofs.Common.{◌≡◌, ℕ, zero, suc, ◌+◌, ◌*◌, ◌^◌, ◌<◌, ◌≤◌, ℤ, pos, ◌+ℤ◌, nat_abs, sym, refl, ap, ◌∙◌, arith, w64}
 use lib.IntN.{+ℤ_idr}
 use Rattle.std.proofs.lemmas.Int.{ints, int_wrap_fits}
-use Rattle.tally.specs.declared.money.MoneyLine.{MoneyLine}
-use Rattle.tally.specs.declared.money.MoneyLine.TheVariants.{Market, Contract, Overcost, Power}
-use Rattle.tally.specs.Energy.{energy_of, no_energy, energy_joined}
-use Rattle.tally.specs.EnergyLaws.{energy_of_joined}
-use Rattle.tally.specs.Lines.{Lines, line_on, lines_by, no_lines, lines_joined, alone, balance_of, LinesWithin, LinesFit}
-use Rattle.tally.specs.LinesLaws.{line_on_by}
-use Rattle.tally.specs.Money.{money_of, lines_of, no_money, money_joined}
-use Rattle.tally.specs.MoneyLaws.{money_of_joined}
-use Rattle.tally.specs.Sums.{nat_sum_over, int_sum_over, lines_over}
-use Rattle.tally.specs.Total.{total_over}
-use Rattle.tally.proofs.Numbers.{int_sum_over_abs, fits_abs}
-use Rattle.tally.proofs.Sums.{total_over_map}
+use Rattle.tally.specs.{declared.money.MoneyLine.MoneyLine, declared.money.MoneyLine.TheVariants.Market, declared.money.MoneyLine.TheVariants.Contract, declared.money.MoneyLine.TheVariants.Overcost, declared.money.MoneyLine.TheVariants.Power, Energy.energy_of, Energy.no_energy, Energy.energy_joined, EnergyLaws.energy_of_joined, Lines.Lines, Lines.line_on, Lines.lines_by, Lines.no_lines, Lines.lines_joined, Lines.alone, Lines.balance_of, Lines.LinesWithin, Lines.LinesFit, LinesLaws.line_on_by, Money.money_of, Money.lines_of, Money.no_money, Money.money_joined, MoneyLaws.money_of_joined, Sums.nat_sum_over, Sums.int_sum_over, Sums.lines_over, Total.total_over}
+use Rattle.tally.proofs.{Numbers.int_sum_over_abs, Numbers.fits_abs, Sums.total_over_map}
 
 -- ---- one line, and the balance, of two together
 
@@ -40,10 +30,6 @@ pub contract-joined : (x : Lines) (points : ℤ) → lines_joined x (alone Contr
 contract-joined x points i =
     record { market = +ℤ_idr x.market i; contract = x.contract +ℤ points; overcost = +ℤ_idr x.overcost i; power = +ℤ_idr x.power i }
 
-pub power-joined : (x : Lines) (points : ℤ) → lines_joined x (alone Power points) ≡ record x { power = x.power +ℤ points }
-power-joined x points i =
-    record { market = +ℤ_idr x.market i; contract = +ℤ_idr x.contract i; overcost = +ℤ_idr x.overcost i; power = x.power +ℤ points }
-
 -- ---- of several together
 
 pub line_on-over : (line : MoneyLine) (start n : ℕ) (f : ℕ → Lines) → line_on line (lines_over start n f) ≡ int_sum_over start n (λ k. line_on line (f k))
@@ -51,19 +37,6 @@ line_on-over line = total_over_map no_lines lines_joined (pos 0) ◌+ℤ◌ (lin
 
 pub balance_of-over : (start n : ℕ) (f : ℕ → Lines) → balance_of (lines_over start n f) ≡ int_sum_over start n (λ k. balance_of (f k))
 balance_of-over = total_over_map no_lines lines_joined (pos 0) ◌+ℤ◌ balance_of refl balance_of-joined
-
--- the money of several is the money of their lines
-pub money_of-over : (start n : ℕ) (f : ℕ → Lines) → money_of (lines_over start n f) ≡ total_over no_money money_joined start n (λ k. money_of (f k))
-money_of-over = total_over_map no_lines lines_joined no_money money_joined money_of refl (λ x y. sym (money_of_joined x y))
-
--- the energy of several is that of their numbers
-pub energy_of-over : (start n : ℕ) (f g : ℕ → ℕ) →
-    energy_of (nat_sum_over start n f) (nat_sum_over start n g) ≡ total_over no_energy energy_joined start n (λ k. energy_of (f k) (g k))
-energy_of-over start n f g = places start n
-  where
-    places : (start n : ℕ) → energy_of (nat_sum_over start n f) (nat_sum_over start n g) ≡ total_over no_energy energy_joined start n (λ k. energy_of (f k) (g k))
-    places start zero = refl
-    places start (suc n) = sym (energy_of_joined (f start) (g start) _ _) ∙ ap (energy_joined (energy_of (f start) (g start))) (places (start + 1) n)
 
 -- ---- how large
 

@@ -1,21 +1,10 @@
 -- Sums of numbers: whole ones and those with a sign, over places from one on, over those from 0 on, and over the items of a list. Assumes nothing.
 use Rattle.std.proofs.Common.{◌≡◌, ℕ, zero, suc, ◌+◌, ◌*◌, ◌^◌, ◌<◌, ◌≤◌, cond, eqb, List, [], ◌∷◌, ◌++◌, map, length, get_or, set, take, ℤ, pos, ◌+ℤ◌, ◌-ℤ◌, neg_ℤ, nat_abs, sum_by, sum, sym, refl, ap, ◌∙◌, subst, ⊎_elim, suc-mul, arith, w64, SFits}
 use lib.IntN.{+ℤ_idl, +ℤ_comm, +ℤ_assoc}
-use Rattle.std.specs.List.{All, range_with_len, swap, zip}
-use Rattle.std.specs.List.Sorted.{IsPermutation}
-use Rattle.std.proofs.lemmas.Bool.{cases_eq, cond-true, cond-false, eq-eqb, ne_eqb}
-use Rattle.std.proofs.lemmas.Int.{ints}
-use Rattle.std.proofs.lemmas.List.{length-map, length-set, get_or-map, get_or-set_same, get_or-set_other}
-use Rattle.std.proofs.lemmas.List.Elements.{All-head, All-tail}
-use Rattle.std.proofs.lemmas.List.FromFn.{fill_by_all, length-range_with_len, length-map-range_with_len, get_or-map-range_with_len}
-use Rattle.std.proofs.lemmas.List.Sorted.{IsPermutation-keeps}
-use Rattle.std.proofs.lemmas.List.Sums.{sum-map}
-use Rattle.std.proofs.lemmas.Slice.Zip.{length-zip, get_or-zip}
-use Rattle.tally.specs.Lawful.{Lawful}
-use Rattle.tally.specs.Sums.{nat_sum_over, int_sum_over, sum_to, sum_to_ℤ, int_sum_by}
-use Rattle.tally.specs.Total.{total}
-use Rattle.tally.proofs.Totals.{total_fold}
-use Rattle.tally.proofs.Sums.{All-places, total_of_same, total_of_none, total_of_joined, total_of_swapped, total_of_append, total_of_more, total_of_set, total_over_same, total_over_none, total_over_joined, total_over_swapped, total_over_more, total_over_changed, total_over_map}
+use Rattle.std.specs.List.{All, range_with_len, swap, zip, Sorted.IsPermutation}
+use Rattle.std.proofs.lemmas.{Bool.cases_eq, Bool.cond-true, Bool.cond-false, Bool.eq-eqb, Bool.ne_eqb, Int.ints, List.length-map, List.length-set, List.get_or-map, List.get_or-set_same, List.get_or-set_other, List.Elements.All-head, List.Elements.All-tail, List.FromFn.fill_by_all, List.FromFn.length-range_with_len, List.FromFn.length-map-range_with_len, List.FromFn.get_or-map-range_with_len, List.Sorted.IsPermutation-keeps, List.Sums.sum-map, Slice.Zip.length-zip, Slice.Zip.get_or-zip}
+use Rattle.tally.specs.{Lawful.Lawful, Sums.nat_sum_over, Sums.int_sum_over, Sums.sum_to, Sums.sum_to_ℤ, Sums.int_sum_by, Total.total}
+use Rattle.tally.proofs.{Totals.total_fold, Sums.All-places, Sums.total_of_same, Sums.total_of_none, Sums.total_of_joined, Sums.total_of_swapped, Sums.total_of_append, Sums.total_of_more, Sums.total_of_set, Sums.total_over_same, Sums.total_over_none, Sums.total_over_joined, Sums.total_over_swapped, Sums.total_over_more, Sums.total_over_changed, Sums.total_over_map}
 
 pub nat_lawful : Lawful 0 ◌+◌
 nat_lawful = record { identity = λ x. omega arith; commutative = λ x y. omega arith; associative = λ x y z. omega arith }
@@ -113,17 +102,11 @@ sum_to_add n f g = total_over_joined nat_lawful 0 n f g
 pub sum_to_ℤ_add : (n : ℕ) (f g : ℕ → ℤ) → sum_to_ℤ n (λ k. f k +ℤ g k) ≡ sum_to_ℤ n f +ℤ sum_to_ℤ n g
 sum_to_ℤ_add n f g = total_over_joined int_lawful 0 n f g
 
-pub sum_to_ℤ_neg : (n : ℕ) (f : ℕ → ℤ) → sum_to_ℤ n (λ k. neg_ℤ (f k)) ≡ neg_ℤ (sum_to_ℤ n f)
-sum_to_ℤ_neg n f = int_sum_over_neg 0 n f
-
 pub sum_to_ℤ_less : (n : ℕ) (f g : ℕ → ℕ) → sum_to_ℤ n (λ k. pos (f k) -ℤ pos (g k)) ≡ pos (sum_to n f) -ℤ pos (sum_to n g)
 sum_to_ℤ_less n f g = int_sum_over_less 0 n f g
 
 pub sum_to_swap : (n m : ℕ) (f : ℕ → ℕ → ℕ) → sum_to n (λ i. sum_to m (λ j. f i j)) ≡ sum_to m (λ j. sum_to n (λ i. f i j))
 sum_to_swap n m f = total_over_swapped nat_lawful 0 n 0 m f
-
-pub sum_to_ℤ_swap : (n m : ℕ) (f : ℕ → ℕ → ℤ) → sum_to_ℤ n (λ i. sum_to_ℤ m (λ j. f i j)) ≡ sum_to_ℤ m (λ j. sum_to_ℤ n (λ i. f i j))
-sum_to_ℤ_swap n m f = total_over_swapped int_lawful 0 n 0 m f
 
 -- one summand changed
 pub sum_to_change : (n : ℕ) (f g : ℕ → ℕ) (k : ℕ) → k < n → ((h : ℕ) → h < n → (h ≡ k → ⊥) → g h ≡ f h) → sum_to n g + f k ≡ sum_to n f + g k
@@ -189,12 +172,6 @@ module _ {X : Type 0} (f : X → ℤ) where
 
   pub int_sum_by_zero : (xs : List X) → All (λ x. f x ≡ pos 0) xs → int_sum_by f xs ≡ pos 0
   int_sum_by_zero xs zeros = total_of_none int_lawful f xs zeros
-
-  pub int_sum_by_add : (g : X → ℤ) (xs : List X) → int_sum_by (λ x. f x +ℤ g x) xs ≡ int_sum_by f xs +ℤ int_sum_by g xs
-  int_sum_by_add g xs = total_of_joined int_lawful f g xs
-
-  pub int_sum_by_append : (xs ys : List X) → int_sum_by f (xs ++ ys) ≡ int_sum_by f xs +ℤ int_sum_by f ys
-  int_sum_by_append xs ys = total_of_append int_lawful f xs ys
 
   pub int_sum_by_more : (xs : List X) (i : ℕ) (d : X) → i < length xs → int_sum_by f (take (i + 1) xs) ≡ int_sum_by f (take i xs) +ℤ f (get_or xs i d)
   int_sum_by_more xs i d within = total_of_more int_lawful f xs i d within

@@ -1,13 +1,8 @@
 -- Sums, once over the laws of a tally: over the items of a list, and over places from one on. Assumes nothing.
 use Rattle.std.proofs.Common.{◌≡◌, ℕ, zero, suc, ◌+◌, ◌<◌, ◌≤◌, Bool, true, List, [], ◌∷◌, ◌++◌, map, length, get_or, set, take, sym, refl, ap, ◌∙◌, subst, inl, inr, arith}
 use Rattle.std.specs.List.{All, list_all, range_with_len}
-use Rattle.std.proofs.lemmas.Bool.{cases_eq}
-use Rattle.std.proofs.lemmas.List.{take_more}
-use Rattle.std.proofs.lemmas.List.Elements.{All-head, All-tail, All-from_get_or, All-weaker}
-use Rattle.std.proofs.lemmas.List.FromFn.{length-range_with_len, get_or-range_with_len, map-range_with_len_more}
-use Rattle.std.proofs.lemmas.List.Sums.{AllPass-from_list_all}
-use Rattle.tally.specs.Lawful.{Lawful}
-use Rattle.tally.specs.Total.{total, total_over}
+use Rattle.std.proofs.lemmas.{Bool.cases_eq, List.take_more, List.Elements.All-head, List.Elements.All-tail, List.Elements.All-from_get_or, List.Elements.All-weaker, List.FromFn.length-range_with_len, List.FromFn.get_or-range_with_len, List.FromFn.map-range_with_len_more, List.Sums.AllPass-from_list_all}
+use Rattle.tally.specs.{Lawful.Lawful, Total.total, Total.total_over}
 use Rattle.tally.proofs.Totals.{right_identity, total_append}
 
 -- what is so of each place is so of all of them

@@ -1,9 +1,8 @@
 -- What the laws of a tally give of totals. Assumes nothing.
 use Rattle.std.proofs.Common.{◌≡◌, ℕ, zero, suc, ◌+◌, ◌*◌, ◌<◌, ◌≤◌, List, [], ◌∷◌, ◌++◌, map, length, get_or, set, take, drop, fold, sym, ap, ◌∙◌, arith, drop-drop, le_of_suc-le-suc, not-suc-le-zero}
-use Rattle.tally.specs.Lawful.{Lawful}
+use Rattle.tally.specs.{Lawful.Lawful, Total.total, Total.day_in, Total.day_totals}
 use Rattle.std.specs.List.{range_with_len}
 use Rattle.std.proofs.lemmas.List.{take-append-drop, drop_all}
-use Rattle.tally.specs.Total.{total, day_in, day_totals}
 
 module _ {T : Type 0} {nothing : T} {joined : T → T → T} (laws : Lawful nothing joined) where
   pub right_identity : (x : T) → joined x nothing ≡ x

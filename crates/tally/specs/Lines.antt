@@ -1,8 +1,7 @@
 -- The lines of money as whole numbers: what is owed to an agent is above 0, what it owes below. Assumes nothing.
 use Rattle.std.specs.Prelude.{ℕ, ◌≤◌, ℤ, pos, ◌+ℤ◌, neg_ℤ, nat_abs, FitsSigned}
 use Rattle.std.specs.Int.{w64}
-use Rattle.tally.specs.declared.money.MoneyLine.{MoneyLine}
-use Rattle.tally.specs.declared.money.MoneyLine.TheVariants.{Market, Contract, Overcost, Power}
+use Rattle.tally.specs.declared.money.MoneyLine.{MoneyLine, TheVariants.Market, TheVariants.Contract, TheVariants.Overcost, TheVariants.Power}
 
 pub record Lines : Type 0 where
   pub market : ℤ

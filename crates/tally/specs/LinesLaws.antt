@@ -1,10 +1,7 @@
 -- What joins of lines come to. Assumes nothing.
 use Rattle.std.specs.Prelude.{◌≡◌, ℤ}
 use Rattle.std.proofs.Math.IntN.{+ℤ_idl, +ℤ_comm, +ℤ_assoc, +ℤ_invr}
-use Rattle.tally.specs.Lawful.{Lawful}
-use Rattle.tally.specs.Lines.{Lines, line_on, lines_by, no_lines, lines_joined, lines_undone}
-use Rattle.tally.specs.declared.money.MoneyLine.{MoneyLine}
-use Rattle.tally.specs.declared.money.MoneyLine.TheVariants.{Market}
+use Rattle.tally.specs.{Lawful.Lawful, Lines.Lines, Lines.line_on, Lines.lines_by, Lines.no_lines, Lines.lines_joined, Lines.lines_undone, declared.money.MoneyLine.MoneyLine, declared.money.MoneyLine.TheVariants.Market}
 
 -- two of equal lines are equal
 pub lines_same : (x y : Lines) → ((line : MoneyLine) → line_on line x ≡ line_on line y) → x ≡ y

@@ -1,8 +1,7 @@
 -- Money: lines of which each keeps 64 bits. Assumes nothing.
 use Rattle.std.specs.Int.{int_wrap, w64}
 use Rattle.std.proofs.lemmas.Int.{SFits-int_wrap}
-use Rattle.tally.specs.Lines.{Lines, no_lines, lines_joined, lines_undone}
-use Rattle.tally.specs.declared.money.Money.{Money}
+use Rattle.tally.specs.{Lines.Lines, Lines.no_lines, Lines.lines_joined, Lines.lines_undone, declared.money.Money.Money}
 
 -- the money that lines are, each wrapped to 64 bits
 abbrev pub money_of : Lines → Money

@@ -2,16 +2,10 @@
 use Rattle.std.specs.Prelude.{◌≡◌, ◌^◌, ◌<◌, ℤ, pos, ◌+ℤ◌, neg_ℤ}
 use Rattle.std.proofs.Common.{sym, ap, ◌∙◌}
 use mathlib.Core.HLevel.{is_prop→PathP}
-use Rattle.std.proofs.Math.Bridge.{le_prop}
-use Rattle.std.proofs.Math.IntN.{+ℤ_idl}
-use Rattle.std.specs.Int.Signed.{mag}
-use Rattle.std.specs.Int.{int_wrap, w64}
+use Rattle.std.proofs.Math.{Bridge.le_prop, IntN.+ℤ_idl}
 use Rattle.std.proofs.lemmas.Int.{int_wrap_fits, int_wrap-add_left, int_wrap-add_right, int_wrap-sub_right}
-use Rattle.tally.specs.Lawful.{Lawful}
-use Rattle.tally.specs.Lines.{Lines, line_on, lines_by, no_lines, lines_joined, lines_undone}
-use Rattle.tally.specs.LinesLaws.{lines_lawful, lines_cancel}
-use Rattle.tally.specs.Money.{money_of, lines_of, no_money, money_joined, money_undone}
-use Rattle.tally.specs.declared.money.Money.{Money}
+use Rattle.std.specs.Int.{Signed.mag, int_wrap, w64}
+use Rattle.tally.specs.{Lawful.Lawful, Lines.Lines, Lines.line_on, Lines.lines_by, Lines.no_lines, Lines.lines_joined, Lines.lines_undone, LinesLaws.lines_lawful, LinesLaws.lines_cancel, Money.money_of, Money.lines_of, Money.no_money, Money.money_joined, Money.money_undone, declared.money.Money.Money}
 
 -- money of equal lines is equal
 pub money_same : (x y : Money) → lines_of x ≡ lines_of y → x ≡ y

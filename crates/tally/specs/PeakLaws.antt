@@ -2,11 +2,9 @@
 use Rattle.std.specs.Prelude.{◌≡◌}
 use mathlib.Core.HLevel.{is_prop→PathP}
 use Rattle.std.proofs.Math.Nat.{ℕ_set}
-use Rattle.std.proofs.Common.{arith}
 use Rattle.std.proofs.lemmas.Bool.Decides.{nat_tests}
-use Rattle.tally.specs.Lawful.{Lawful}
-use Rattle.tally.specs.Peak.{no_peak, peak_joined}
-use Rattle.tally.specs.declared.peak.Peak.{Peak}
+use Rattle.std.proofs.Common.{arith}
+use Rattle.tally.specs.{Lawful.Lawful, Peak.no_peak, Peak.peak_joined, declared.peak.Peak.Peak}
 
 -- two of equal numbers are equal
 pub peak_same : (x y : Peak) → x.kwh ≡ y.kwh → x.hour ≡ y.hour → x ≡ y

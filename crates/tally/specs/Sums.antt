@@ -1,7 +1,6 @@
 -- Sums over places, counted from 0, and over the items of a list. Assumes nothing.
 use Rattle.std.specs.Prelude.{ℕ, ◌+◌, List, map, ℤ, pos, ◌+ℤ◌}
-use Rattle.tally.specs.Lines.{Lines, no_lines, lines_joined}
-use Rattle.tally.specs.Total.{total, total_over}
+use Rattle.tally.specs.{Lines.Lines, Lines.no_lines, Lines.lines_joined, Total.total, Total.total_over}
 
 -- f at the n places from `start` on, all together: of whole numbers, of whole numbers with a sign, and of lines
 abbrev pub nat_sum_over : (start n : ℕ) → (ℕ → ℕ) → ℕ

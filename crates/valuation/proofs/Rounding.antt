@@ -1,6 +1,7 @@
 -- What is known of a rounded quotient: all that is used of it elsewhere. Assumes nothing.
 use Rattle.std.proofs.Common.{◌≡◌, ℕ, ◌+◌, ◌/◌, ◌%◌, ◌<◌, ◌≤◌, mod-lt, div-add-mod', arith}
-use Rattle.std.proofs.{Math.Nat.div-mul-le_self, lemmas.Nat.le-div}
+use Rattle.std.proofs.Math.Nat.{div-mul-le_self}
+use Rattle.std.proofs.lemmas.Nat.{le-div}
 use Rattle.valuation.specs.Rounding.{rounded, NearestUp}
 
 -- of no more there is no more

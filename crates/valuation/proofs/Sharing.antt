@@ -3,7 +3,7 @@
 use Rattle.std.proofs.Common.{◌≡◌, ℕ, zero, suc, ◌+◌, ◌*◌, ◌/◌, ◌%◌, ◌<◌, ◌≤◌, ◌⊎◌, List, map, length, get_or, take, sum, sym, ap, ◌∙◌, subst, inl, inr, add-zero, mod-lt, mul_comm, add-mul, eq-zero-or-pos, mul-le-mul_left, mul-zero, div-add-mod', zero-mul, mul-add, mul_right_comm, mul-div_cancel, add-one, arith}
 use native.Mathlib.Nat.{zero-div, div-zero, zero-mod, mul-add-div_right, div-le_of_le-mul}
 use Rattle.std.specs.List.{All, range_with_len}
-use Rattle.std.proofs.{lemmas.Nat.le-div, lemmas.List.FromFn.length-map-range_with_len, lemmas.List.FromFn.get_or-map-range_with_len, lemmas.List.FromFn.sum_by-map-range_with_len_more, lemmas.List.get_or_past, lemmas.List.take_all, lemmas.List.Elements.All-from_get_or, lemmas.List.Sums.sum_by_more, lemmas.List.Sums.sum_by-take-le, lemmas.Bool.cases_lt}
+use Rattle.std.proofs.lemmas.{Nat.le-div, List.FromFn.length-map-range_with_len, List.FromFn.get_or-map-range_with_len, List.FromFn.sum_by-map-range_with_len_more, List.get_or_past, List.take_all, List.Elements.All-from_get_or, List.Sums.sum_by_more, List.Sums.sum_by-take-le, Bool.cases_lt}
 use Rattle.valuation.specs.Sharing.{part_at, part_of, parts_of, Fair}
 
 -- ---- one part

@@ -1,20 +1,10 @@
 -- The figures that the rules give for inputs small enough to be worked by hand. Assumes nothing.
 use Rattle.std.specs.Prelude.{ℕ, List, [], ◌∷◌, map, ℤ, pos}
-use Rattle.calendar.specs.Bands.{band_of}
-use Rattle.calendar.specs.declared.bands.Band.{Band}
-use Rattle.calendar.specs.declared.bands.Band.TheVariants.{Peak, Medium, Base}
-use Rattle.calendar.specs.declared.weekdays.Weekday.TheVariants.{Monday, Saturday, Sunday}
-use Rattle.forms.specs.declared.Contract.{Contract}
-use Rattle.forms.specs.declared.Delivery.TheVariants.{MarketBar}
-use Rattle.forms.specs.declared.Facts.{Facts}
-use Rattle.forms.specs.declared.Parties.{Parties}
-use Rattle.forms.specs.Layers.{product_meaning}
-use Rattle.meter.specs.declared.quarters.Quarter.{Quarter}
-use Rattle.meter.specs.Quarters.{net_kwh, external_kwh, auxiliaries_kwh}
+use Rattle.calendar.specs.{Bands.band_of, declared.bands.Band.Band, declared.bands.Band.TheVariants.Peak, declared.bands.Band.TheVariants.Medium, declared.bands.Band.TheVariants.Base, declared.weekdays.Weekday.TheVariants.Monday, declared.weekdays.Weekday.TheVariants.Saturday, declared.weekdays.Weekday.TheVariants.Sunday}
+use Rattle.forms.specs.{declared.Contract.Contract, declared.Delivery.TheVariants.MarketBar, declared.Facts.Facts, declared.Parties.Parties, Layers.product_meaning}
+use Rattle.meter.specs.{declared.quarters.Quarter.Quarter, Quarters.net_kwh, Quarters.external_kwh, Quarters.auxiliaries_kwh}
 use Rattle.packets.specs.Numbers.{spelled}
-use Rattle.valuation.specs.Amounts.{amount_of}
-use Rattle.valuation.specs.Excess.{excess_of}
-use Rattle.valuation.specs.Sharing.{part_of}
+use Rattle.valuation.specs.{Amounts.amount_of, Excess.excess_of, Sharing.part_of}
 use Rattle.worked.specs.Month.{month_balance, month_residue}
 
 -- a band as a number

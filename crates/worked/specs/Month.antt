@@ -1,15 +1,8 @@
 -- A month of which one hour is posted, small enough to be worked by hand. Assumes nothing.
 use Rattle.std.specs.Prelude.{ℕ, List, [], ◌∷◌, ℤ}
-use Rattle.forms.specs.declared.Contract.{Contract}
-use Rattle.forms.specs.declared.Delivery.TheVariants.{MarketBar}
-use Rattle.forms.specs.Layers.{product_meaning}
-use Rattle.settlement.specs.declared.agents.Agent.{Agent}
-use Rattle.settlement.specs.declared.lines.Line.{Line}
-use Rattle.settlement.specs.Posting.{Posting}
-use Rattle.standing.specs.Requests.{Opening, Request, posting, entering}
-use Rattle.standing.specs.Standing.{Standing}
-use Rattle.standing.specs.Turns.{after}
-use Rattle.standing.specs.Worked.{agent_balance, residue_after}
+use Rattle.forms.specs.{declared.Contract.Contract, declared.Delivery.TheVariants.MarketBar, Layers.product_meaning}
+use Rattle.settlement.specs.{declared.agents.Agent.Agent, declared.lines.Line.Line, Posting.Posting}
+use Rattle.law.specs.{Requests.Opening, Requests.Request, Requests.posting, Requests.entering, Standing.Standing, Turns.after, Worked.agent_balance, Worked.residue_after}
 
 -- a generator with a capacity of 4,000 kWh in an hour
 abbrev pub generator_agent : Agent

@@ -1,9 +1,5 @@
 use Rattle.std.proofs.Common.{Ok, ap, ◌∙◌}
-use Rattle.book.specs.Closing.{close_fault, charged}
-use Rattle.book.specs.Lent.{memory_in}
-use Rattle.book.specs.Memory.{memory_of}
-use Rattle.book.specs.Months.{figures_of}
-use Rattle.book.specs.Outcomes.{outcome, outcome_of}
+use Rattle.book.specs.{Closing.close_fault, Closing.charged, Lent.memory_in, Memory.memory_of, Months.figures_of, Outcomes.outcome, Outcomes.outcome_of}
 use Rattle.book.proofs.closing.close.Goals as goal
 
 pub returns-in-Err-clause-value : goal.returns-in-Err-clause-value

@@ -1,8 +1,6 @@
 use Rattle.std.proofs.Common.{None, ap, ◌∙◌}
 use Rattle.std.proofs.lemmas.Result.{err_from_is_err_and}
-use Rattle.book.specs.Entering.{cancel_fault, placed}
-use Rattle.book.specs.Lent.{memory_with}
-use Rattle.book.specs.Outcomes.{outcome}
+use Rattle.book.specs.{Entering.cancel_fault, Entering.placed, Lent.memory_with, Outcomes.outcome}
 use Rattle.book.proofs.entering.cancel.Goals as goal
 
 pub returns-in_err-place : goal.returns-in_err-place

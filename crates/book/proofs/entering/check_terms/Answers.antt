@@ -1,6 +1,5 @@
 use Rattle.std.proofs.Common.{ap, ◌∙◌}
-use Rattle.settlement.specs.ContractFaults.{contract_fault}
-use Rattle.settlement.specs.Setting.{Setting}
+use Rattle.settlement.specs.{ContractFaults.contract_fault, Setting.Setting}
 use Rattle.book.proofs.entering.check_terms.Goals as goal
 
 pub returns : goal.returns

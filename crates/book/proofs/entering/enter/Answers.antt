@@ -1,8 +1,6 @@
 use Rattle.std.proofs.Common.{set, Some, Ok, ap, ◌∙◌}
 use Rattle.std.proofs.lemmas.Result.{err_from_is_err_and}
-use Rattle.book.specs.Entering.{enter_fault, placed}
-use Rattle.book.specs.Lent.{memory_with}
-use Rattle.book.specs.Outcomes.{outcome, outcome_of}
+use Rattle.book.specs.{Entering.enter_fault, Entering.placed, Lent.memory_with, Outcomes.outcome, Outcomes.outcome_of}
 use Rattle.book.proofs.entering.enter.Goals as goal
 
 pub returns-in_err-place : goal.returns-in_err-place

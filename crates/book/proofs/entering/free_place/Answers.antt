@@ -1,7 +1,6 @@
 use Rattle.std.proofs.Common.{not, is_some}
 use Rattle.std.proofs.lemmas.Result.{err_from_is_err_and}
-use Rattle.settlement.specs.ContractFaults.{number_known, place_at}
-use Rattle.settlement.specs.declared.faults.BookFault.TheVariants.{ContractNumber}
+use Rattle.settlement.specs.{ContractFaults.number_known, ContractFaults.place_at, declared.faults.BookFault.TheVariants.ContractNumber}
 use Rattle.book.proofs.Tables.{first_meets}
 use Rattle.book.proofs.entering.free_place.Goals as goal
 

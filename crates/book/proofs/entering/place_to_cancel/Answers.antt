@@ -1,13 +1,10 @@
 use Rattle.std.proofs.Common.{◌≡◌, ◌-◌, ◌<◌, true, length, get_or, Some, None, sym, ap, ◌∙◌, arith}
-use Rattle.std.proofs.lemmas.Bool.{and_parts, ltb-true}
-use Rattle.std.proofs.lemmas.Result.{err_from_is_err_and}
+use Rattle.std.proofs.lemmas.{Bool.and_parts, Bool.ltb-true, Result.err_from_is_err_and}
 use Rattle.settlement.specs.ContractFaults.{contract_fits, place_fits, place_at}
 use Rattle.tally.proofs.Failing.{all_each}
 use Rattle.settlement.proofs.Settles.{fitting}
 use Rattle.calendar.specs.Limits.{hours_of}
-use Rattle.book.specs.Lent.{memory_seen}
-use Rattle.book.specs.Memory.{setting_in}
-use Rattle.book.specs.Months.{figures_in}
+use Rattle.book.specs.{Lent.memory_seen, Memory.setting_in, Months.figures_in}
 use Rattle.book.proofs.Tables.{memory_fits, this_row}
 use Rattle.book.proofs.entering.place_to_cancel.Goals as goal
 

@@ -1,11 +1,6 @@
 use Rattle.std.proofs.Common.{◌≡◌, ◌*◌, ◌≤◌, true, length, sum_by, arith, rules}
-use Rattle.std.proofs.lemmas.Iterator.{YieldsList-from_slice, YieldsList-from_map}
-use Rattle.std.proofs.lemmas.Iterator.Consumers.{fits_by_from_yields_list}
-use Rattle.std.proofs.lemmas.List.Elements.{All-weaker}
-use Rattle.std.proofs.lemmas.List.Sums.{sum_by-le, AllPass-from_list_all}
-use Rattle.std.proofs.lemmas.Bool.{and_parts, leb-true}
-use Rattle.settlement.specs.Holdings.{Holding}
-use Rattle.settlement.specs.Limits.{most_month_energy}
+use Rattle.std.proofs.lemmas.{Iterator.YieldsList-from_slice, Iterator.YieldsList-from_map, Iterator.Consumers.fits_by_from_yields_list, List.Elements.All-weaker, List.Sums.sum_by-le, List.Sums.AllPass-from_list_all, Bool.and_parts, Bool.leb-true}
+use Rattle.settlement.specs.{Holdings.Holding, Limits.most_month_energy}
 use Rattle.book.specs.Memory.{energy_within}
 use Rattle.book.proofs.memory.all_withdrawn.Goals as goal
 

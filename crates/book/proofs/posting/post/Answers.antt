@@ -2,18 +2,8 @@ use Rattle.std.proofs.Common.{ℕ, set, refl, ap, ◌∙◌}
 use Rattle.std.specs.List.{list_all}
 use Rattle.std.proofs.lemmas.Result.{err_from_is_err_and}
 use Rattle.calendar.specs.Limits.{hours_of}
-use Rattle.settlement.specs.ContractFaults.{place_fits}
-use Rattle.settlement.specs.Faults.{met_if, of_posting}
-use Rattle.settlement.specs.Holdings.{Holding, entry_of}
-use Rattle.settlement.specs.Legs.{hour_of}
-use Rattle.settlement.specs.Posting.{posting_of}
-use Rattle.settlement.specs.PostingFaults.{line_fault, uncarried}
-use Rattle.settlement.specs.Setting.{Setting}
-use Rattle.settlement.specs.declared.faults.BookFault.TheVariants.{NoCarrier}
-use Rattle.book.specs.Lent.{memory_in}
-use Rattle.book.specs.Memory.{memory_of, memory_fault}
-use Rattle.book.specs.Months.{figures_of, setting_with}
-use Rattle.book.specs.Rewriting.{entries_with, accounts_with}
+use Rattle.settlement.specs.{ContractFaults.place_fits, Faults.met_if, Faults.of_posting, Holdings.Holding, Holdings.entry_of, Legs.hour_of, Posting.posting_of, PostingFaults.line_fault, PostingFaults.uncarried, Setting.Setting, declared.faults.BookFault.TheVariants.NoCarrier}
+use Rattle.book.specs.{Lent.memory_in, Memory.memory_of, Memory.memory_fault, Months.figures_of, Months.setting_with, Rewriting.entries_with, Rewriting.accounts_with}
 use Rattle.book.proofs.Tables.{memory_fits, next_row, this_row, refused, accepted}
 use Rattle.book.proofs.posting.post.Goals as goal
 

@@ -1,18 +1,9 @@
 use Rattle.std.proofs.Common.{◌≡◌, ℕ, ◌*◌, ◌<◌, ◌≤◌, length, get_or, take, set, replicate, sym, refl, ap, ◌∙◌, arith}
-use Rattle.std.proofs.lemmas.List.{get_or-take, get_or-replicate}
-use Rattle.std.proofs.lemmas.Result.{err_from_is_err_and}
-use Rattle.std.proofs.lemmas.Bool.{ne_eqb}
-use Rattle.settlement.specs.declared.faults.BookFault.TheVariants.{FreeHour}
-use Rattle.settlement.specs.Faults.{met_if, of_posting}
-use Rattle.settlement.specs.Holdings.{Holding, no_holding}
-use Rattle.settlement.specs.PostingFaults.{hour_fault}
-use Rattle.book.specs.Lent.{memory_in}
-use Rattle.book.specs.Memory.{memory_of, memory_fault}
+use Rattle.std.proofs.lemmas.{List.get_or-take, List.get_or-replicate, Result.err_from_is_err_and, Bool.ne_eqb}
+use Rattle.settlement.specs.{declared.faults.BookFault.TheVariants.FreeHour, Faults.met_if, Faults.of_posting, Holdings.Holding, Holdings.no_holding, PostingFaults.hour_fault}
+use Rattle.book.specs.{Lent.memory_in, Memory.memory_of, Memory.memory_fault, Months.figures_in, Rewriting.entries_with, Rewriting.accounts_with}
 use Rattle.calendar.specs.Limits.{hours_of}
-use Rattle.book.specs.Months.{figures_in}
-use Rattle.book.specs.Rewriting.{entries_with, accounts_with}
-use Rattle.book.proofs.Columns.{entries_with_same, accounts_with_same}
-use Rattle.book.proofs.Tables.{memory_fits, next_row, this_row, refused, accepted}
+use Rattle.book.proofs.{Columns.entries_with_same, Columns.accounts_with_same, Tables.memory_fits, Tables.next_row, Tables.this_row, Tables.refused, Tables.accepted}
 use Rattle.book.proofs.posting.withdraw.Goals as goal
 
 -- the first items of many equal ones

@@ -1,10 +1,7 @@
 use Rattle.std.proofs.Common.{◌≡◌, ℕ, ◌*◌, ◌<◌, length, get_or, sym, ap, ◌∙◌, arith}
 use Rattle.std.proofs.lemmas.List.FromFn.{get_or-map-range_with_len}
 use Rattle.calendar.specs.Limits.{hours_of}
-use Rattle.settlement.specs.Holdings.{Holding, no_holding, entry_of}
-use Rattle.settlement.specs.Legs.{hour_of}
-use Rattle.settlement.specs.Posting.{posting_of}
-use Rattle.settlement.specs.Setting.{setting_of}
+use Rattle.settlement.specs.{Holdings.Holding, Holdings.no_holding, Holdings.entry_of, Legs.hour_of, Posting.posting_of, Setting.setting_of}
 use Rattle.book.specs.Rewriting.{entries_with, accounts_with}
 use Rattle.book.proofs.Columns.{entries_with_same, accounts_with_same}
 use Rattle.book.proofs.posting.write_posting.Goals as goal

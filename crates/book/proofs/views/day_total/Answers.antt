@@ -1,17 +1,10 @@
 use Rattle.std.proofs.Common.{◌≡◌, ◌+◌, ◌-◌, ◌*◌, ◌<◌, ◌≤◌, false, ◌||◌, eqb, ltb, Ok, length, take, drop, refl, sym, ap, ◌∙◌, arith, rules}
-use Rattle.std.proofs.lemmas.Result.{err_from_is_err_and}
-use Rattle.std.proofs.lemmas.Bool.Decides.{nat_tests}
+use Rattle.std.proofs.lemmas.{Result.err_from_is_err_and, Bool.Decides.nat_tests}
 use Rattle.tally.specs.Total.{total}
-use Rattle.settlement.specs.declared.faults.BookFault.TheVariants.{OutsideBook}
-use Rattle.settlement.specs.Faults.{answer_of, met_if}
-use Rattle.settlement.specs.Holdings.{no_holding, holding_joined}
-use Rattle.book.specs.Statements.{day_sum, day_stated}
-use Rattle.book.specs.Lent.{memory_seen}
-use Rattle.book.specs.Memory.{memory_fault}
+use Rattle.settlement.specs.{declared.faults.BookFault.TheVariants.OutsideBook, Faults.answer_of, Faults.met_if, Holdings.no_holding, Holdings.holding_joined}
+use Rattle.book.specs.{Statements.day_sum, Statements.day_stated, Lent.memory_seen, Memory.memory_fault, Months.figures_in}
 use Rattle.calendar.specs.Limits.{hours_of}
-use Rattle.book.specs.Months.{figures_in}
-use Rattle.book.proofs.Columns.{day_within}
-use Rattle.book.proofs.Tables.{memory_fits, next_row, this_row}
+use Rattle.book.proofs.{Columns.day_within, Tables.memory_fits, Tables.next_row, Tables.this_row}
 use Rattle.book.proofs.views.day_total.Goals as goal
 
 pub slice_bounds-fold-end : goal.slice_bounds-fold-end

@@ -1,6 +1,5 @@
 use Rattle.std.proofs.Common.{◌<◌, ◌≢◌, length, get_or, ap, ◌∙◌, arith, below_more}
-use Rattle.std.proofs.lemmas.List.FromFn.{fill_by_all}
-use Rattle.std.proofs.lemmas.List.{get_or_read, get_or-set_same, get_or-set_other}
+use Rattle.std.proofs.lemmas.List.{FromFn.fill_by_all, get_or_read, get_or-set_same, get_or-set_other}
 use Rattle.tally.specs.Peak.{peak_of, no_peak}
 use Rattle.settlement.specs.Holdings.{Holding, no_holding}
 use Rattle.book.proofs.views.fill_peaks.Goals as goal

@@ -1,7 +1,6 @@
 use Rattle.std.proofs.Common.{◌≡◌, ℕ, ◌+◌, ◌-◌, List, length, get_or, take, drop, ap, ◌∙◌, arith}
 use Rattle.std.proofs.lemmas.List.{get_or-take, get_or-drop, length-take, length-drop}
-use Rattle.tally.specs.Total.{total}
-use Rattle.tally.specs.Peak.{peak_of, no_peak, peak_joined}
+use Rattle.tally.specs.{Total.total, Peak.peak_of, Peak.no_peak, Peak.peak_joined}
 use Rattle.book.specs.Statements.{peak_over}
 use Rattle.settlement.specs.Holdings.{Holding, no_holding}
 use Rattle.tally.proofs.Numbers.{map_counting_same}

@@ -1,6 +1,5 @@
 use Rattle.std.proofs.Common.{ap, ◌∙◌}
-use Rattle.book.specs.Lent.{memory_seen}
-use Rattle.book.specs.Statements.{stated}
+use Rattle.book.specs.{Lent.memory_seen, Statements.stated}
 use Rattle.book.proofs.views.provisional.Goals as goal
 
 pub returns : goal.returns

@@ -1,9 +1,7 @@
 use Rattle.std.proofs.Common.{◌-◌, ◌*◌, ◌<◌, ap, arith}
-use Rattle.book.specs.Lent.{memory_seen}
+use Rattle.book.specs.{Lent.memory_seen, Months.figures_in}
 use Rattle.calendar.specs.Limits.{hours_of}
-use Rattle.book.specs.Months.{figures_in}
-use Rattle.book.proofs.Columns.{month_within}
-use Rattle.book.proofs.Tables.{memory_fits}
+use Rattle.book.proofs.{Columns.month_within, Tables.memory_fits}
 use Rattle.book.proofs.views.statement_in.Goals as goal
 
 pub month_peak-peak-requires-clause-within : goal.month_peak-peak-requires-clause-within

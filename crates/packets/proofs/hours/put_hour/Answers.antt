@@ -1,12 +1,8 @@
 use Rattle.std.proofs.Common.{ℕ, [], ◌∷◌, ◌++◌, ◌-◌, length, take, drop, get_or, ap, ◌∙◌, sym, arith}
 use Rattle.std.specs.List.{flat_map}
-use Rattle.std.proofs.lemmas.List.{length-take, length-drop, length-append, append-nil, take_all}
-use Rattle.std.proofs.lemmas.List.Folds.{length-flat_map-take}
-use Rattle.packets.specs.Hours.{packet_hour}
-use Rattle.packets.specs.Numbers.{overwritten}
-use Rattle.packets.specs.Formats.{spelled_all}
-use Rattle.packets.proofs.RowSteps.{over_next}
-use Rattle.packets.proofs.HourSteps.{no_line, line_bytes, bytes_to, bytes_next, hour_spelled}
+use Rattle.std.proofs.lemmas.List.{length-take, length-drop, length-append, append-nil, take_all, Folds.length-flat_map-take}
+use Rattle.packets.specs.{Hours.packet_hour, Numbers.overwritten, Formats.spelled_all}
+use Rattle.packets.proofs.{RowSteps.over_next, HourSteps.no_line, HourSteps.line_bytes, HourSteps.bytes_to, HourSteps.bytes_next, HourSteps.hour_spelled}
 use Rattle.packets.proofs.hours.put_hour.Goals as goal
 
 pub loop-line-init : goal.loop-line-init

@@ -1,6 +1,5 @@
 use Rattle.std.proofs.Common.{◌≡◌, length}
-use Rattle.packets.specs.Hours.{packet_hour}
-use Rattle.packets.specs.Numbers.{overwritten}
+use Rattle.packets.specs.{Hours.packet_hour, Numbers.overwritten}
 use Rattle.packets.proofs.HourSteps.{bytes_to}
 use Rattle.packets.proofs.hours.put_hour.Given as goal
 

@@ -1,9 +1,7 @@
 use Rattle.std.proofs.Common.{◌≡◌, ◌-◌, ◌<◌, ◌≤◌, ℕ, List, Ok, Err, length, take, ap, ◌∙◌, sym, subst, arith, rules, length-set}
 use Rattle.std.proofs.lemmas.List.{take_all}
-use Rattle.packets.specs.Formats.{Over, and_then, before, whole, RowRead}
-use Rattle.packets.specs.HourPackets.{line_limits, lines_format, line_figures, lines_figures, LinesRead}
-use Rattle.packets.proofs.Formats.{before_none}
-use Rattle.packets.proofs.HourSteps.{lines_more, lines_fault, lines_done}
+use Rattle.packets.specs.{Formats.Over, Formats.and_then, Formats.before, Formats.whole, Formats.RowRead, HourPackets.line_limits, HourPackets.lines_format, HourPackets.line_figures, HourPackets.lines_figures, HourPackets.LinesRead}
+use Rattle.packets.proofs.{Formats.before_none, HourSteps.lines_more, HourSteps.lines_fault, HourSteps.lines_done}
 use Rattle.packets.proofs.hours.read_lines.Goals as goal
 
 sub_zero : (n : ℕ) → n - 0 ≡ n

@@ -1,6 +1,5 @@
 use Rattle.std.proofs.Common.{◌≡◌, ◌≤◌, ◌+◌, ◌*◌, ◌-◌, length, take}
-use Rattle.packets.specs.Formats.{and_then, before, whole}
-use Rattle.packets.specs.HourPackets.{lines_format, lines_figures}
+use Rattle.packets.specs.{Formats.and_then, Formats.before, Formats.whole, HourPackets.lines_format, HourPackets.lines_figures}
 use Rattle.packets.proofs.hours.read_lines.Given as goal
 
 abbrev pub invariant-loop-i : goal.invariant-loop-i

@@ -1,7 +1,5 @@
 use Rattle.std.proofs.Common.{◌≡◌, Err, length, ap, ◌∙◌, sym, arith, rules}
-use Rattle.packets.specs.Formats.{sized, row, closed}
-use Rattle.packets.specs.Hours.{packet_hour}
-use Rattle.packets.specs.HourPackets.{heading_limits}
+use Rattle.packets.specs.{Formats.sized, Formats.row, Formats.closed, Hours.packet_hour, HourPackets.heading_limits}
 use Rattle.packets.proofs.HourSteps.{sized_hour, count_le, lines_checked, lines_checked_all}
 use Rattle.packets.proofs.hours.size_of_hour.Goals as goal
 

@@ -1,7 +1,5 @@
 use Rattle.std.proofs.Common.{◌≡◌, ◌≤◌, ◌+◌, ◌*◌, ◌-◌, length, drop}
-use Rattle.packets.specs.Formats.{sized}
-use Rattle.packets.specs.Hours.{packet_hour, most_lines}
-use Rattle.packets.specs.HourPackets.{hour_format, hour_figures, lines_format, lines_figures}
+use Rattle.packets.specs.{Formats.sized, Hours.packet_hour, Hours.most_lines, HourPackets.hour_format, HourPackets.hour_figures, HourPackets.lines_format, HourPackets.lines_figures}
 use Rattle.packets.proofs.hours.size_of_hour.Given as goal
 
 abbrev pub invariant-loop-line : goal.invariant-loop-line

@@ -1,8 +1,6 @@
 use Rattle.std.proofs.Common.{List, ℕ, ◌∙◌, sym, subst, take}
-use Rattle.packets.specs.Hours.{packet_hour}
-use Rattle.packets.specs.HourPackets.{hour_format, hour_figures, HourReadsBack}
-use Rattle.packets.proofs.Formats.{whole_written}
-use Rattle.packets.proofs.HourSteps.{hour_back}
+use Rattle.packets.specs.{Hours.packet_hour, HourPackets.hour_format, HourPackets.hour_figures, HourPackets.HourReadsBack}
+use Rattle.packets.proofs.{Formats.whole_written, HourSteps.hour_back}
 use Rattle.packets.proofs.hours.write_hour.Goals as goal
 
 pub returns-clause-back : goal.returns-clause-back

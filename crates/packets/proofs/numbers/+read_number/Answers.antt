@@ -1,6 +1,5 @@
 use Rattle.std.proofs.Common.{ℕ, ◌-◌, ◌/◌, ◌<◌, List, length, take, drop, sym, ap, ◌∙◌, arith}
-use Rattle.std.proofs.lemmas.Bool.Decides.{nat_tests}
-use Rattle.std.proofs.lemmas.List.{length-take, length-drop}
+use Rattle.std.proofs.lemmas.{Bool.Decides.nat_tests, List.length-take, List.length-drop}
 use Rattle.packets.specs.Numbers.{at_most, continued, number_in}
 use Rattle.packets.proofs.Spelling.{read_empty, first_low, first_more, capped, capped_under, at_most_some, continued_zero, continued_some, size_le}
 use Rattle.packets.proofs.numbers.+read_number.Goals as goal

@@ -1,7 +1,6 @@
 use Rattle.std.proofs.Common.{◌+◌, true, false, get_or, drop, ap, ◌∙◌, sym, arith}
 use Rattle.packets.specs.Formats.{row, closed, sized}
-use Rattle.packets.proofs.Spelling.{spelled_ten}
-use Rattle.packets.proofs.RowSteps.{sized_next, sized_all}
+use Rattle.packets.proofs.{Spelling.spelled_ten, RowSteps.sized_next, RowSteps.sized_all}
 use Rattle.packets.proofs.rows.check_row.Goals as goal
 
 pub returns-then-not-has-clause-value : goal.returns-then-not-has-clause-value

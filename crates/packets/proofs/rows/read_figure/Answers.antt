@@ -1,9 +1,7 @@
 use Rattle.std.proofs.Common.{◌≡◌, None, Some, drop, ap, ◌∙◌, sym, arith}
 use Rattle.std.proofs.lemmas.List.{take_rest, length-drop}
 use Rattle.packets.specs.Numbers.{at_most, number_in}
-use Rattle.packets.proofs.Spelling.{at_most_some, read_ten, size_le}
-use Rattle.packets.proofs.Formats.{figure_ok}
-use Rattle.packets.proofs.RowSteps.{figure_some, figure_low, figure_none}
+use Rattle.packets.proofs.{Spelling.at_most_some, Spelling.read_ten, Spelling.size_le, Formats.figure_ok, RowSteps.figure_some, RowSteps.figure_low, RowSteps.figure_none}
 use Rattle.packets.proofs.rows.read_figure.Goals as goal
 
 pub returns-in_default-clause-value : goal.returns-in_default-clause-value

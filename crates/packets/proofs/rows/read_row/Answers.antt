@@ -1,8 +1,7 @@
 use Rattle.std.proofs.Common.{◌≡◌, ◌<◌, ◌≢◌, Err, take, length, ap, ◌∙◌, sym, subst, arith, rules, below_more}
 use Rattle.std.proofs.lemmas.List.{take_all, get_or-set_same, get_or-set_other}
 use Rattle.packets.specs.Formats.{and_then, before, whole, row, RowRead}
-use Rattle.packets.proofs.Formats.{before_none}
-use Rattle.packets.proofs.RowSteps.{row_more, row_fault, row_done}
+use Rattle.packets.proofs.{Formats.before_none, RowSteps.row_more, RowSteps.row_fault, RowSteps.row_done}
 use Rattle.packets.proofs.rows.read_row.Goals as goal
 
 pub loop-i-init : goal.loop-i-init

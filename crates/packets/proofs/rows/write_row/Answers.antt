@@ -1,8 +1,6 @@
 use Rattle.std.proofs.Common.{ℕ, List, get_or, length, take, ap, ◌∙◌, sym, arith}
-use Rattle.std.proofs.lemmas.List.{length-take, length-drop, length-append}
-use Rattle.std.proofs.lemmas.List.Folds.{length-flat_map-take}
-use Rattle.packets.specs.Numbers.{spelled, overwritten}
-use Rattle.packets.specs.Formats.{spelled_all}
+use Rattle.std.proofs.lemmas.List.{length-take, length-drop, length-append, Folds.length-flat_map-take}
+use Rattle.packets.specs.{Numbers.spelled, Numbers.overwritten, Formats.spelled_all}
 use Rattle.packets.proofs.RowSteps.{over_next, pieces_next}
 use Rattle.packets.proofs.rows.write_row.Goals as goal
 

@@ -1,6 +1,5 @@
 use Rattle.std.proofs.Common.{◌≡◌, length, take}
-use Rattle.packets.specs.Numbers.{overwritten}
-use Rattle.packets.specs.Formats.{spelled_all}
+use Rattle.packets.specs.{Numbers.overwritten, Formats.spelled_all}
 use Rattle.packets.proofs.rows.write_row.Given as goal
 
 abbrev pub invariant-loop-figure : goal.invariant-loop-figure

@@ -1,8 +1,6 @@
 use Rattle.std.proofs.Common.{◌≡◌, ◌-◌, length, take, drop, ap, ◌∙◌, sym}
 use Rattle.std.proofs.lemmas.Grind.{flat_map-append}
-use Rattle.packets.specs.Numbers.{spelled, overwritten}
-use Rattle.packets.specs.Formats.{spelled_all}
-use Rattle.packets.specs.StatementPackets.{statement_figures}
+use Rattle.packets.specs.{Numbers.spelled, Numbers.overwritten, Formats.spelled_all, StatementPackets.statement_figures}
 use Rattle.packets.proofs.RowSteps.{over_next}
 use Rattle.packets.proofs.statements.put_statement.Goals as goal
 

@@ -1,12 +1,7 @@
 use Rattle.std.proofs.Common.{◌≡◌, ℕ, Result, Ok, Err, List, ◌++◌, ap, ◌∙◌, sym, subst, arith, rules}
 use Rattle.std.proofs.lemmas.List.{length-append}
-use Rattle.packets.specs.declared.faults.ByteFault.{ByteFault}
-use Rattle.packets.specs.declared.rows.Limits.{Limits}
-use Rattle.packets.specs.declared.statements.StatementFigures.{StatementFigures}
-use Rattle.packets.specs.Formats.{and_then, whole, RowRead, Spells}
-use Rattle.packets.specs.StatementPackets.{statement_format, statement_figures, statement_of}
-use Rattle.packets.proofs.Formats.{spells, left_over, none_left}
-use Rattle.packets.proofs.StatementSteps.{statement_opening, statement_closing, figures_back}
+use Rattle.packets.specs.{declared.faults.ByteFault.ByteFault, declared.rows.Limits.Limits, declared.statements.StatementFigures.StatementFigures, Formats.and_then, Formats.whole, Formats.RowRead, Formats.Spells, StatementPackets.statement_format, StatementPackets.statement_figures, StatementPackets.statement_of}
+use Rattle.packets.proofs.{Formats.spells, Formats.left_over, Formats.none_left, StatementSteps.statement_opening, StatementSteps.statement_closing, StatementSteps.figures_back}
 use Rattle.packets.proofs.statements.read_statement.Goals as goal
 
 -- the statement of figures that were read, or the fault of the bytes

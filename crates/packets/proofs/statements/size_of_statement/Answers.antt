@@ -1,6 +1,5 @@
 use Rattle.std.proofs.Common.{◌≡◌, Ok, Err, take, drop, ap, ◌∙◌, sym, rules}
-use Rattle.packets.specs.Formats.{and_then, sized, row, closed}
-use Rattle.packets.specs.StatementPackets.{opening_limits, closing_limits, statement_figures}
+use Rattle.packets.specs.{Formats.and_then, Formats.sized, Formats.row, Formats.closed, StatementPackets.opening_limits, StatementPackets.closing_limits, StatementPackets.statement_figures}
 use Rattle.packets.proofs.StatementSteps.{sized_statement}
 use Rattle.packets.proofs.statements.size_of_statement.Goals as goal
 

@@ -1,7 +1,6 @@
 use Rattle.std.proofs.Common.{take, ap, ◌∙◌, sym, arith}
 use Rattle.packets.specs.StatementPackets.{statement_format, statement_figures, statement_read}
-use Rattle.packets.proofs.Formats.{sized_end, output_ok}
-use Rattle.packets.proofs.StatementSteps.{statement_reads}
+use Rattle.packets.proofs.{Formats.sized_end, Formats.output_ok, StatementSteps.statement_reads}
 use Rattle.packets.proofs.statements.write_statement.Goals as goal
 
 pub put_statement-requires : goal.put_statement-requires

@@ -1,8 +1,5 @@
 use Rattle.forms.specs.Meaning.{Meaning}
-use Rattle.book.specs.Closing.{close_fault, charged}
-use Rattle.book.specs.Lent.{memory_in}
-use Rattle.book.specs.Memory.{Memory}
-use Rattle.book.specs.Months.{figures_of, closed_figures_of}
+use Rattle.book.specs.{Closing.close_fault, Closing.charged, Lent.memory_in, Memory.Memory, Months.figures_of, Months.closed_figures_of}
 use Rattle.runs.proofs.Outcomes.{month_given}
 use Rattle.runs.proofs.runs.answer_close.Goals as goal
 

@@ -1,6 +1,5 @@
 use Rattle.std.proofs.Common.{ap, ◌∙◌, rules}
-use Rattle.book.specs.Statements.{stated}
-use Rattle.book.specs.Months.{figures_of}
+use Rattle.book.specs.{Statements.stated, Months.figures_of}
 use Rattle.runs.proofs.runs.answer_open.Goals as goal
 
 pub returns-in-Statement-clause-turn : goal.returns-in-Statement-clause-turn

@@ -1,9 +1,7 @@
 use Rattle.std.proofs.Common.{◌≡◌, ℕ, ◌++◌, List, [], length, map, take, drop, min, ap, sym, ◌∙◌, arith}
 use Rattle.std.proofs.lemmas.List.{take-map, take_min, drop_min, take-append-drop, length-take, append-nil}
 use Rattle.std.proofs.Math.ListN.{drop_of_length-le}
-use Rattle.runs.specs.declared.calls.Call.{Call}
-use Rattle.runs.specs.Reading.{request_of, figures_in}
-use Rattle.runs.specs.Runs.{answers_to, kept_in, kept_after}
+use Rattle.runs.specs.{declared.calls.Call.Call, Reading.request_of, Reading.figures_in, Runs.answers_to, Runs.kept_in, Runs.kept_after}
 use Rattle.runs.proofs.runs.replay.Goals as goal
 
 -- of so many calls, those for which there are places

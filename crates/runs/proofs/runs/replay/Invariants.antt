@@ -1,7 +1,5 @@
 use Rattle.std.proofs.Common.{◌≡◌, ◌≤◌, ◌++◌, length, map, take, drop}
-use Rattle.runs.specs.Lent.{SameLoan}
-use Rattle.runs.specs.Reading.{request_of, figures_in}
-use Rattle.runs.specs.Runs.{kept_in, answers_to, kept_after}
+use Rattle.runs.specs.{Lent.SameLoan, Reading.request_of, Reading.figures_in, Runs.kept_in, Runs.answers_to, Runs.kept_after}
 use Rattle.runs.proofs.runs.replay.Given as goal
 
 abbrev pub invariant-loop-i : goal.invariant-loop-i

@@ -1,7 +1,6 @@
 use Rattle.std.proofs.Common.{◌≡◌, ◌+◌, ◌%◌, ◌^◌, ℤ, ◌+ℤ◌, ap, sym, ◌∙◌, rules, w64, to_z, of_z}
 use Rattle.std.specs.Int.{int_wrap}
-use Rattle.std.proofs.lemmas.Int.{wraps, int_wrap-add_left}
-use Rattle.std.proofs.lemmas.List.{get_or_read}
+use Rattle.std.proofs.lemmas.{Int.wraps, Int.int_wrap-add_left, List.get_or_read}
 use Rattle.tally.specs.Sums.{sum_to_ℤ}
 use Rattle.tally.proofs.Numbers.{sum_to_ℤ_more}
 use Rattle.runs.specs.Runs.{no_statement, balance_at}

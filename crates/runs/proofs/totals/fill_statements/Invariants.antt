@@ -1,9 +1,7 @@
 use Rattle.std.proofs.Common.{◌≡◌, ℕ, ◌<◌, length, get_or}
 use Rattle.book.specs.Statements.{statement_in}
 use Rattle.calendar.specs.Limits.{hours_of}
-use Rattle.runs.specs.Lent.{memory_in}
-use Rattle.runs.specs.Reading.{figures_in}
-use Rattle.runs.specs.Runs.{no_statement}
+use Rattle.runs.specs.{Lent.memory_in, Reading.figures_in, Runs.no_statement}
 use Rattle.runs.proofs.totals.fill_statements.Given as goal
 
 abbrev pub invariant-loop-i : goal.invariant-loop-i

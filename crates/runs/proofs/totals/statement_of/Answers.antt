@@ -2,12 +2,10 @@ use Rattle.std.proofs.Common.{◌≡◌, ◌-◌, IfOk, sym, ap, ◌∙◌, subs
 use Rattle.std.specs.Result.{result_err}
 use Rattle.book.specs.Statements.{statement_in, stated}
 use Rattle.calendar.specs.Limits.{hours_of}
-use Rattle.runs.specs.Lent.{memory_in}
-use Rattle.runs.specs.Reading.{figures_in}
-use Rattle.runs.proofs.Outcomes.{answer_fault, answer_value}
+use Rattle.runs.specs.{Lent.memory_in, Reading.figures_in}
+use Rattle.runs.proofs.{Outcomes.answer_fault, Outcomes.answer_value, totals.statement_of.Goals.After-provisional, totals.statement_of.Goals.After-final_statement}
 use Rattle.runs.proofs.totals.statement_of.Goals as goal
 use Rattle.runs.proofs.totals.statement_of.Given as given
-use Rattle.runs.proofs.totals.statement_of.Goals.{After-provisional, After-final_statement}
 
 -- the answer of an open month, and of a closed one
 told_open : (g : given.Over) (c : After-provisional g) → c.provisional.result ≡ stated (g.F.ContractForm.meaning c.args.form.now) (figures_in c.args.month.now) c.args.agent (memory_in c.args.lent.now)

@@ -1,9 +1,7 @@
 use Rattle.std.proofs.Common.{◌≡◌, ℕ, ◌+◌, ◌≤◌, cond, eqb, List, get_or, take, ℤ, pos, nat_abs, sym, ap, ◌∙◌, subst, arith, w64, to_z, of_z}
-use Rattle.std.proofs.lemmas.Int.{to_z-of_z}
-use Rattle.std.proofs.lemmas.Slice.Zip.{get_or-zip}
+use Rattle.std.proofs.lemmas.{Int.to_z-of_z, Slice.Zip.get_or-zip}
 use Rattle.tally.specs.Sums.{int_sum_by}
-use Rattle.forms.specs.Limits.{most_leg}
-use Rattle.forms.specs.Parties.{party_numbers, points_of, legs_by_party}
+use Rattle.forms.specs.{Limits.most_leg, Parties.party_numbers, Parties.points_of, Parties.legs_by_party}
 use Rattle.settlement.specs.Holdings.{Holding, no_holding, with_points}
 use Rattle.settlement.proofs.Points.{points_none, points_more}
 use Rattle.tally.proofs.Numbers.{fits_abs, int_sum_by_more}

@@ -1,7 +1,6 @@
 use Rattle.std.proofs.Common.{take}
 use Rattle.forms.specs.Parties.{legs_by_party}
-use Rattle.settlement.specs.Holdings.{EachGets}
-use Rattle.settlement.specs.Legs.{is_number, given_to}
+use Rattle.settlement.specs.{Holdings.EachGets, Legs.is_number, Legs.given_to}
 use Rattle.settlement.proofs.legs.put_legs.Given as goal
 
 abbrev pub invariant-loop-number : goal.invariant-loop-number

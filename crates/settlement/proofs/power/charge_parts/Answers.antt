@@ -1,8 +1,6 @@
 use Rattle.std.proofs.Common.{◌≡◌, ◌<◌, ◌≢◌, length, get_or, pos, ◌-ℤ◌, ap, ◌∙◌, arith, below_more}
-use Rattle.std.proofs.lemmas.List.FromFn.{fill_by_all}
-use Rattle.std.proofs.lemmas.List.{get_or_default, get_or-set_same, get_or-set_other}
-use Rattle.settlement.specs.Holdings.{no_holding, holding_joined, withdrawn_on, power_points}
-use Rattle.settlement.specs.Power.{power_credit, charged_at}
+use Rattle.std.proofs.lemmas.List.{FromFn.fill_by_all, get_or_default, get_or-set_same, get_or-set_other}
+use Rattle.settlement.specs.{Holdings.no_holding, Holdings.holding_joined, Holdings.withdrawn_on, Holdings.power_points, Power.power_credit, Power.charged_at}
 use Rattle.settlement.proofs.Powers.{power_part_le, power_part_read}
 use Rattle.settlement.proofs.power.charge_parts.Goals as goal
 

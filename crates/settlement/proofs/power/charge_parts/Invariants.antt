@@ -1,6 +1,5 @@
 use Rattle.std.proofs.Common.{◌≡◌, ℕ, ◌<◌, ◌≤◌, get_or}
-use Rattle.settlement.specs.Holdings.{no_holding}
-use Rattle.settlement.specs.Power.{charged_at}
+use Rattle.settlement.specs.{Holdings.no_holding, Power.charged_at}
 use Rattle.settlement.proofs.power.charge_parts.Given as goal
 
 abbrev pub invariant-loop-i : goal.invariant-loop-i

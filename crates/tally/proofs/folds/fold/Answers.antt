@@ -1,6 +1,5 @@
 use Rattle.std.proofs.Common.{rules, tests}
-use Rattle.std.proofs.lemmas.Iterator.{YieldsList-from_slice}
-use Rattle.std.proofs.lemmas.Iterator.Consumers.{fold_from_yields_List}
+use Rattle.std.proofs.lemmas.Iterator.{YieldsList-from_slice, Consumers.fold_from_yields_List}
 use Rattle.tally.proofs.Totals.{total_fold}
 use Rattle.tally.proofs.folds.fold.Goals as goal
 

@@ -1,7 +1,6 @@
 use Rattle.std.proofs.Common.{ap, ◌∙◌}
 use Rattle.std.specs.List.{list_all}
-use Rattle.settlement.specs.ContractFaults.{place_fits}
-use Rattle.settlement.specs.Setting.{Setting}
+use Rattle.settlement.specs.{ContractFaults.place_fits, Setting.Setting}
 use Rattle.book.proofs.memory.View.contracts_fit.Goals as goal
 
 pub returns : goal.returns

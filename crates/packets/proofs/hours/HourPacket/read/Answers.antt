@@ -1,12 +1,7 @@
 use Rattle.std.proofs.Common.{◌≡◌, ◌≤◌, Ok, Err, Result, List, ℕ, length, ap, ◌∙◌, sym, subst, arith, rules, lit<, slice_index}
 use Rattle.std.proofs.lemmas.List.{length-take-le, take_at}
-use Rattle.packets.specs.declared.faults.ByteFault.{ByteFault}
-use Rattle.packets.specs.declared.hours.PacketLine.{PacketLine}
-use Rattle.packets.specs.Formats.{and_then, whole}
-use Rattle.packets.specs.Hours.{PacketHour, packet_hour}
-use Rattle.packets.specs.HourPackets.{hour_format, hour_figures, hour_of, HourSpelledOnce}
-use Rattle.packets.proofs.Formats.{spells, left_over}
-use Rattle.packets.proofs.HourSteps.{hour_head, hour_lines, hour_whole, hour_is}
+use Rattle.packets.specs.{declared.faults.ByteFault.ByteFault, declared.hours.PacketLine.PacketLine, Formats.and_then, Formats.whole, Hours.PacketHour, Hours.packet_hour, HourPackets.hour_format, HourPackets.hour_figures, HourPackets.hour_of, HourPackets.HourSpelledOnce}
+use Rattle.packets.proofs.{Formats.spells, Formats.left_over, HourSteps.hour_head, HourSteps.hour_lines, HourSteps.hour_whole, HourSteps.hour_is}
 use Rattle.packets.proofs.hours.HourPacket.read.Goals as goal
 
 -- the hour of figures that were read, or the fault of the bytes

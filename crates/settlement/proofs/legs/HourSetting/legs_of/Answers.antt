@@ -1,10 +1,6 @@
 use Rattle.std.proofs.Common.{ap, ◌∙◌, sym, subst}
-use Rattle.forms.specs.Meaning.{Meaning, MayAsk}
-use Rattle.forms.specs.declared.Contract.{Contract}
-use Rattle.forms.specs.declared.Facts.{Facts}
-use Rattle.forms.specs.declared.Parties.{Parties}
-use Rattle.settlement.specs.Posting.{Posting, posting_of}
-use Rattle.settlement.specs.Setting.{Setting, setting_of}
+use Rattle.forms.specs.{Meaning.Meaning, Meaning.MayAsk, declared.Contract.Contract, declared.Facts.Facts, declared.Parties.Parties}
+use Rattle.settlement.specs.{Posting.Posting, Posting.posting_of, Setting.Setting, Setting.setting_of}
 use Rattle.settlement.proofs.Settles.{fitting, settles}
 use Rattle.settlement.proofs.legs.HourSetting.legs_of.Goals as goal
 

@@ -1,13 +1,8 @@
 use Rattle.std.proofs.Common.{Bool, List, get_or, take, ℤ, None, Option, sym, ap, ◌∙◌, arith}
 use Rattle.tally.specs.Sums.{int_sum_by}
 use Rattle.forms.specs.declared.Contract.{Contract}
-use Rattle.settlement.specs.ContractFaults.{place_fits}
-use Rattle.settlement.specs.Holdings.{Holding, no_holding, with_points}
-use Rattle.settlement.specs.Legs.{is_number, given_in}
-use Rattle.settlement.specs.Posting.{posting_of}
-use Rattle.settlement.specs.Setting.{Setting, setting_of}
-use Rattle.tally.proofs.Failing.{all_each}
-use Rattle.tally.proofs.Numbers.{int_sum_by_more}
+use Rattle.settlement.specs.{ContractFaults.place_fits, Holdings.Holding, Holdings.no_holding, Holdings.with_points, Legs.is_number, Legs.given_in, Posting.posting_of, Setting.Setting, Setting.setting_of}
+use Rattle.tally.proofs.{Failing.all_each, Numbers.int_sum_by_more}
 use Rattle.settlement.proofs.Points.{points_none, points_more}
 use Rattle.settlement.proofs.legs.HourSetting.put_contracts.Goals as goal
 

@@ -1,9 +1,6 @@
 use Rattle.std.proofs.Common.{take}
 use Rattle.tally.specs.Sums.{int_sum_by}
-use Rattle.settlement.specs.Holdings.{EachGets}
-use Rattle.settlement.specs.Legs.{is_number, given_in}
-use Rattle.settlement.specs.Posting.{posting_of}
-use Rattle.settlement.specs.Setting.{Setting, setting_of}
+use Rattle.settlement.specs.{Holdings.EachGets, Legs.is_number, Legs.given_in, Posting.posting_of, Setting.Setting, Setting.setting_of}
 use Rattle.settlement.proofs.legs.HourSetting.put_contracts.Given as goal
 
 abbrev pub invariant-loop-place : goal.invariant-loop-place

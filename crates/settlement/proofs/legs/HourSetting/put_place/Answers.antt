@@ -1,13 +1,7 @@
 use Rattle.std.proofs.Common.{◌≡◌, ℤ, true, false, cond, get_or, pos, Some, Option, sym, ap, ◌∙◌, subst, arith}
-use Rattle.forms.specs.declared.Contract.{Contract}
-use Rattle.forms.specs.Parties.{legs_by_party}
-use Rattle.settlement.specs.ContractFaults.{contract_fits, place_fits, covers}
-use Rattle.settlement.specs.Holdings.{no_holding, with_points}
-use Rattle.settlement.specs.Legs.{legs_of, is_number, given_to, given_in}
-use Rattle.settlement.specs.Posting.{Posting, posting_of}
-use Rattle.settlement.specs.Setting.{Setting, setting_of}
-use Rattle.settlement.proofs.Points.{points_none}
-use Rattle.settlement.proofs.Settles.{fitting}
+use Rattle.forms.specs.{declared.Contract.Contract, Parties.legs_by_party}
+use Rattle.settlement.specs.{ContractFaults.contract_fits, ContractFaults.place_fits, ContractFaults.covers, Holdings.no_holding, Holdings.with_points, Legs.legs_of, Legs.is_number, Legs.given_to, Legs.given_in, Posting.Posting, Posting.posting_of, Setting.Setting, Setting.setting_of}
+use Rattle.settlement.proofs.{Points.points_none, Settles.fitting}
 use Rattle.settlement.proofs.legs.HourSetting.put_place.Goals as goal
 
 pub put_legs-requires : goal.put_legs-requires

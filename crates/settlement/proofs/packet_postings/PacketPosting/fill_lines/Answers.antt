@@ -1,7 +1,6 @@
 use Rattle.std.proofs.Common.{map, sym, ◌∙◌, arith}
 use Rattle.std.proofs.lemmas.List.{length-map, ext_get_or}
-use Rattle.settlement.specs.Lines.{no_line}
-use Rattle.settlement.specs.Packets.{line_in}
+use Rattle.settlement.specs.{Lines.no_line, Packets.line_in}
 use Rattle.settlement.proofs.packet_postings.PacketPosting.fill_lines.Goals as goal
 
 pub returns : goal.returns

@@ -1,6 +1,5 @@
 use Rattle.std.proofs.Common.{◌≡◌, map, length, ℕ, ◌<◌, get_or}
-use Rattle.settlement.specs.Lines.{no_line}
-use Rattle.settlement.specs.Packets.{line_in}
+use Rattle.settlement.specs.{Lines.no_line, Packets.line_in}
 use Rattle.settlement.proofs.packet_postings.PacketPosting.fill_lines.Given as goal
 
 abbrev pub invariant-loop-i : goal.invariant-loop-i

@@ -1,10 +1,7 @@
 use Rattle.std.proofs.Common.{◌≡◌, ℕ, List, map, length, Result, Ok, ap, ◌∙◌}
 use Rattle.std.proofs.lemmas.List.{length-map, take_at}
 use Rattle.packets.specs.Formats.{and_then}
-use Rattle.settlement.specs.declared.faults.LineFault.{LineFault}
-use Rattle.settlement.specs.declared.lines.Line.{Line}
-use Rattle.settlement.specs.Packets.{line_in, posting_by, of_bytes}
-use Rattle.settlement.specs.Posting.{Posting}
+use Rattle.settlement.specs.{declared.faults.LineFault.LineFault, declared.lines.Line.Line, Packets.line_in, Packets.posting_by, Packets.of_bytes, Posting.Posting}
 use Rattle.settlement.proofs.packet_postings.PacketPosting.read.Goals as goal
 
 pub returns : goal.returns

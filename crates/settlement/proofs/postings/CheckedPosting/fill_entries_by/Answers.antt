@@ -1,14 +1,9 @@
 use Rattle.std.proofs.Common.{◌≡◌, ℕ, ◌<◌, ◌≢◌, List, length, get_or, pos, ap, ◌∙◌, arith, below_more}
-use Rattle.std.proofs.lemmas.List.FromFn.{fill_by_all}
-use Rattle.std.proofs.lemmas.List.{get_or-set_same, get_or-set_other}
+use Rattle.std.proofs.lemmas.List.{FromFn.fill_by_all, get_or-set_same, get_or-set_other}
 use Rattle.valuation.specs.Sharing.{parts_of}
 use Rattle.valuation.proofs.Sharing.{slice_index_or-parts_of}
-use Rattle.settlement.specs.declared.agents.Agent.{Agent}
-use Rattle.settlement.specs.Holdings.{no_holding, entry_of}
-use Rattle.settlement.specs.Hour.{figures_with, own_of, caused_sum, carried_by, obligated_sum, weights_of}
-use Rattle.settlement.specs.Posting.{Posting, posting_of, line_at}
-use Rattle.settlement.proofs.Bounds.{carried_le}
-use Rattle.settlement.proofs.Sharing.{weights_le}
+use Rattle.settlement.specs.{declared.agents.Agent.Agent, Holdings.no_holding, Holdings.entry_of, Hour.figures_with, Hour.own_of, Hour.caused_sum, Hour.carried_by, Hour.obligated_sum, Hour.weights_of, Posting.Posting, Posting.posting_of, Posting.line_at}
+use Rattle.settlement.proofs.{Bounds.carried_le, Sharing.weights_le}
 use Rattle.settlement.proofs.postings.CheckedPosting.fill_entries_by.Goals as goal
 
 -- what the agent at a place carries

@@ -1,7 +1,5 @@
 use Rattle.std.proofs.Common.{◌≡◌, ℕ, ◌<◌, get_or}
-use Rattle.settlement.specs.Holdings.{no_holding, entry_of}
-use Rattle.settlement.specs.Hour.{own_of}
-use Rattle.settlement.specs.Posting.{posting_of}
+use Rattle.settlement.specs.{Holdings.no_holding, Holdings.entry_of, Hour.own_of, Posting.posting_of}
 use Rattle.settlement.proofs.postings.CheckedPosting.fill_entries_by.Given as goal
 
 abbrev pub invariant-loop-i : goal.invariant-loop-i

@@ -1,13 +1,9 @@
 use Rattle.std.proofs.Common.{◌≡◌, ◌+◌, not, List, length, position, sym, ap, ◌∙◌, refl, rules}
 use borrow.Author.Tests.{tests}
 use Rattle.std.specs.Option.{option_map}
-use Rattle.std.proofs.lemmas.Iterator.{YieldsList-from_slice}
-use Rattle.std.proofs.lemmas.Iterator.Search.{position_from_yields_List}
+use Rattle.std.proofs.lemmas.Iterator.{YieldsList-from_slice, Search.position_from_yields_List}
 use Rattle.tally.specs.Failing.{first_failing}
-use Rattle.settlement.specs.declared.faults.LineFault.TheVariants.{OutsideLimit}
-use Rattle.settlement.specs.declared.lines.Line.{Line}
-use Rattle.settlement.specs.Lines.{line_within, no_line}
-use Rattle.settlement.specs.Posting.{line_at}
+use Rattle.settlement.specs.{declared.faults.LineFault.TheVariants.OutsideLimit, declared.lines.Line.Line, Lines.line_within, Lines.no_line, Posting.line_at}
 use Rattle.tally.proofs.Failing.{first_is}
 use Rattle.settlement.proofs.postings.PostedLines.check_limits.Goals as goal
 

@@ -1,18 +1,10 @@
 use Rattle.std.proofs.Common.{◌≡◌, ℕ, ◌+◌, Bool, not, List, length, position, sym, ap, ◌∙◌, arith, rules}
 use borrow.Author.Tests.{tests}
-use Rattle.std.specs.List.{zip}
-use Rattle.std.specs.Option.{option_map}
-use Rattle.std.proofs.lemmas.Iterator.{YieldsList-from_slice, YieldsList-from_zip}
-use Rattle.std.proofs.lemmas.Iterator.Search.{position_from_yields_List}
-use Rattle.std.proofs.lemmas.Slice.Zip.{length-zip, get_or-zip}
+use Rattle.std.specs.{List.zip, Option.option_map}
+use Rattle.std.proofs.lemmas.{Iterator.YieldsList-from_slice, Iterator.YieldsList-from_zip, Iterator.Search.position_from_yields_List, Slice.Zip.length-zip, Slice.Zip.get_or-zip}
 use Rattle.tally.specs.Failing.{first_failing}
-use Rattle.settlement.specs.declared.agents.Agent.{Agent}
-use Rattle.settlement.specs.declared.faults.LineFault.TheVariants.{BreaksRule}
-use Rattle.settlement.specs.declared.lines.Line.{Line}
+use Rattle.settlement.specs.{declared.agents.Agent.Agent, declared.faults.LineFault.TheVariants.BreaksRule, declared.lines.Line.Line, Agents.no_agent, Lines.line_kept, Lines.no_line, PostingFaults.kept_at}
 use Rattle.forms.specs.Roles.{role_of}
-use Rattle.settlement.specs.Agents.{no_agent}
-use Rattle.settlement.specs.Lines.{line_kept, no_line}
-use Rattle.settlement.specs.PostingFaults.{kept_at}
 use Rattle.tally.proofs.Failing.{first_is}
 use Rattle.settlement.proofs.postings.PostedLines.check_rules.Goals as goal
 

@@ -1,6 +1,5 @@
 use Rattle.std.proofs.Common.{◌≡◌, sum_by, ◌∙◌, rules}
-use Rattle.settlement.specs.declared.lines.Line.{Line}
-use Rattle.settlement.specs.Lines.{no_line}
+use Rattle.settlement.specs.{declared.lines.Line.Line, Lines.no_line}
 use Rattle.tally.proofs.Numbers.{sum_by_list}
 use Rattle.settlement.proofs.postings.PostedLines.energy_together.Goals as goal
 

@@ -1,9 +1,6 @@
 use Rattle.std.proofs.Common.{◌≡◌, ℕ, ◌*◌, length, get_or, sum_by, min, ◌∙◌, arith, rules}
-use Rattle.std.proofs.lemmas.Iterator.{YieldsList-from_slice, YieldsList-from_map}
-use Rattle.std.proofs.lemmas.Iterator.Consumers.{sum_by_from_yields_List}
-use Rattle.settlement.specs.declared.agents.Agent.{Agent}
-use Rattle.settlement.specs.Agents.{no_agent}
-use Rattle.settlement.specs.Limits.{points_per_kw, most_credit}
+use Rattle.std.proofs.lemmas.Iterator.{YieldsList-from_slice, YieldsList-from_map, Consumers.sum_by_from_yields_List}
+use Rattle.settlement.specs.{declared.agents.Agent.Agent, Agents.no_agent, Limits.points_per_kw, Limits.most_credit}
 use Rattle.tally.proofs.Numbers.{sum_by_list, sum_to_le}
 use Rattle.settlement.proofs.power.MonthPowerCarried.points.Goals as goal
 

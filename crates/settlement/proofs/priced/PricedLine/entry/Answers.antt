@@ -1,10 +1,6 @@
 use Rattle.std.proofs.Common.{◌+◌, ℤ, pos, ◌-ℤ◌, ◌∙◌, arith, rules}
 use lib.IntN.{+ℤ_idl, +ℤ_idr}
-use Rattle.tally.specs.declared.money.MoneyLine.TheVariants.{Market, Overcost}
-use Rattle.tally.specs.EnergyLaws.{energy_same}
-use Rattle.tally.specs.Lines.{no_lines, alone}
-use Rattle.tally.specs.Money.{money_of, money_joined}
-use Rattle.tally.specs.MoneyLaws.{money_of_joined}
+use Rattle.tally.specs.{declared.money.MoneyLine.TheVariants.Market, declared.money.MoneyLine.TheVariants.Overcost, EnergyLaws.energy_same, Lines.no_lines, Lines.alone, Money.money_of, Money.money_joined, MoneyLaws.money_of_joined}
 use Rattle.tally.proofs.PairLaws.{pair_same}
 use Rattle.settlement.specs.Hour.{market_line, excess_on}
 use Rattle.settlement.proofs.Differences.{difference}

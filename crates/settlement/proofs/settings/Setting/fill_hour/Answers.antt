@@ -1,12 +1,7 @@
 use Rattle.std.proofs.Common.{◌≡◌, ℕ, List, map, length, get_or, ap, ◌∙◌, subst, arith}
 use Rattle.std.specs.List.{range_with_len}
 use Rattle.std.proofs.lemmas.List.FromFn.{fill_by_all, get_or-map-range_with_len}
-use Rattle.settlement.specs.declared.agents.Agent.{Agent}
-use Rattle.settlement.specs.Holdings.{Holding, no_holding, with_points, entry_of}
-use Rattle.settlement.specs.Hour.{own_of}
-use Rattle.settlement.specs.Legs.{contract_line, hour_of}
-use Rattle.settlement.specs.Posting.{Posting, posting_of}
-use Rattle.settlement.specs.Setting.{Setting, setting_of}
+use Rattle.settlement.specs.{declared.agents.Agent.Agent, Holdings.Holding, Holdings.no_holding, Holdings.with_points, Holdings.entry_of, Hour.own_of, Legs.contract_line, Legs.hour_of, Posting.Posting, Posting.posting_of, Setting.Setting, Setting.setting_of}
 use Rattle.settlement.proofs.Points.{points_entry}
 use Rattle.settlement.proofs.settings.Setting.fill_hour.Goals as goal
 

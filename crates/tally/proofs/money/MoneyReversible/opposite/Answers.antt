@@ -1,7 +1,6 @@
 use Rattle.std.proofs.Common.{ap, ◌∙◌, rules}
 use Rattle.std.proofs.lemmas.Int.{wraps}
-use Rattle.tally.specs.Money.{money_joined}
-use Rattle.tally.specs.MoneyLaws.{money_each, money_cancels}
+use Rattle.tally.specs.{Money.money_joined, MoneyLaws.money_each, MoneyLaws.money_cancels}
 use Rattle.tally.proofs.money.MoneyReversible.opposite.Goals as goal
 
 pub returns : goal.returns

@@ -1,10 +1,7 @@
 use Rattle.std.proofs.Common.{◌≡◌, ◌∙◌, arith, rules, tests}
-use Rattle.std.proofs.lemmas.Bool.Decides.{nat_tests}
-use Rattle.std.proofs.lemmas.Fn.{always_returns_same}
+use Rattle.std.proofs.lemmas.{Bool.Decides.nat_tests, Fn.always_returns_same}
 use Rattle.std.specs.Ordering.{ord_max, ordering_then, nat_cmp}
-use Rattle.tally.specs.declared.peak.Peak.{Peak}
-use Rattle.tally.specs.Peak.{peak_joined}
-use Rattle.tally.specs.PeakLaws.{peak_same}
+use Rattle.tally.specs.{declared.peak.Peak.Peak, Peak.peak_joined, PeakLaws.peak_same}
 use Rattle.tally.proofs.peak.PeakTally.join.Goals as goal
 
 -- the larger by kWh, and of equal kWh by the earlier hour, is the two joined

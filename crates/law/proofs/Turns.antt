@@ -2,10 +2,7 @@
 use Rattle.std.proofs.Common.{◌≡◌, true, false, cond, Some, None, Option, Bool, refl}
 use Rattle.forms.specs.Meaning.{Meaning}
 use Rattle.settlement.specs.declared.faults.BookFault.{BookFault}
-use Rattle.standing.specs.Requests.{Opening, Request}
-use Rattle.standing.specs.Standing.{Standing}
-use Rattle.standing.specs.Faults.{fault_met}
-use Rattle.standing.specs.Turns.{was_skipped, can_ask, judged, manner, changed, left_by, next}
+use Rattle.law.specs.{Requests.Opening, Requests.Request, Standing.Standing, Faults.fault_met, Turns.was_skipped, Turns.can_ask, Turns.judged, Turns.manner, Turns.changed, Turns.left_by, Turns.next}
 
 module _ (form : Meaning) (o : Opening) (s : Standing) (r : Request) where
   -- what can be asked is judged by the fault that it meets

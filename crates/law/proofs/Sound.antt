@@ -1,18 +1,10 @@
 -- What an accepted opening and what stands after any requests are known to be. Assumes nothing.
 use Rattle.std.specs.List.{list_all}
 use Rattle.std.proofs.Common.{◌≡◌, ℕ, ◌<◌, ◌≤◌, true, length, Some, None}
-use Rattle.calendar.specs.Calendar.{calendar_fits}
-use Rattle.calendar.specs.Limits.{most_days}
-use Rattle.forms.specs.Meaning.{Meaning}
-use Rattle.forms.specs.Limits.{most_agents, most_contracts}
-use Rattle.settlement.specs.declared.states.State.TheVariants.{Closed}
-use Rattle.settlement.specs.Agents.{agent_fits}
-use Rattle.settlement.specs.Posting.{Posting}
-use Rattle.settlement.specs.PostingFaults.{posting_fault}
-use Rattle.settlement.specs.ContractFaults.{place_fits}
-use Rattle.standing.specs.Requests.{Opening, count_in, hours_in}
-use Rattle.standing.specs.Standing.{Standing, nothing_stands, setting_in}
-use Rattle.standing.specs.Faults.{closing_fault}
+use Rattle.calendar.specs.{Calendar.calendar_fits, Limits.most_days}
+use Rattle.forms.specs.{Meaning.Meaning, Limits.most_agents, Limits.most_contracts}
+use Rattle.settlement.specs.{declared.states.State.TheVariants.Closed, Agents.agent_fits, Posting.Posting, PostingFaults.posting_fault, ContractFaults.place_fits}
+use Rattle.law.specs.{Requests.Opening, Requests.count_in, Requests.hours_in, Standing.Standing, Standing.nothing_stands, Standing.setting_in, Faults.closing_fault}
 
 -- an opening without fault
 pub record Opened (o : Opening) : Type 0 where

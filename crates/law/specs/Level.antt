@@ -1,8 +1,7 @@
 -- When the same stands in two books. Assumes nothing.
 use Rattle.std.specs.Prelude.{◌≡◌, ℕ, ◌<◌, List, [], ◌∷◌, Some, None, Option, IsPermutation}
 use Rattle.forms.specs.declared.Contract.{Contract}
-use Rattle.standing.specs.Requests.{Opening, hours_in}
-use Rattle.standing.specs.Standing.{Standing}
+use Rattle.law.specs.{Requests.Opening, Requests.hours_in, Standing.Standing}
 
 -- the contracts that stand, in the order of their numbers
 abbrev pub standing_contracts : List (Option Contract) → List Contract

@@ -3,13 +3,7 @@ use Rattle.std.specs.Prelude.{◌≡◌, ℕ, ◌<◌, Bool, true, not, List, ma
 use Rattle.std.specs.List.{range_with_len, list_all}
 use Rattle.forms.specs.Meaning.{Meaning, Alike}
 use Rattle.settlement.specs.Faults.{number_of}
-use Rattle.standing.specs.Requests.{Opening, count_in, Request, without_contracts, told_without}
-use Rattle.standing.specs.Turns.{after}
-use Rattle.standing.specs.Level.{Level}
-use Rattle.standing.specs.Parties.{is_stranger}
-use Rattle.standing.specs.Only.{only_standing}
-use Rattle.standing.specs.Worked.{Worked, statement_after, balances_after, residue_after}
-use Rattle.standing.specs.Replies.{Reply, refused, replies_to, manner_of, is_done}
+use Rattle.law.specs.{Requests.Opening, Requests.count_in, Requests.Request, Requests.without_contracts, Requests.told_without, Turns.after, Level.Level, Parties.is_stranger, Only.only_standing, Worked.Worked, Worked.statement_after, Worked.balances_after, Worked.residue_after, Replies.Reply, Replies.refused, Replies.replies_to, Replies.manner_of, Replies.is_done}
 
 -- a book as it was run: what its host was told, every agent's statement at the end, and all balances together
 pub record Book : Type 0 where

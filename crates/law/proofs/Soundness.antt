@@ -1,20 +1,12 @@
 -- What stands after any requests is sound: the faults let nothing else in. Assumes nothing.
 use Rattle.std.specs.List.{list_all}
 use Rattle.std.proofs.Common.{◌≡◌, ℕ, zero, suc, ◌-◌, ◌<◌, Bool, true, false, cond, eqb, List, [], ◌∷◌, set, is_none, Some, None, Option, sym, refl, ap, ◌∙◌, subst}
-use Rattle.std.proofs.lemmas.List.{length-set}
-use Rattle.std.proofs.lemmas.Bool.{false≢true, eqb-true, and_parts, and_from}
-use Rattle.forms.specs.declared.Contract.{Contract}
-use Rattle.forms.specs.Meaning.{Meaning}
-use Rattle.settlement.specs.declared.states.State.TheVariants.{Closed}
-use Rattle.settlement.specs.ContractFaults.{taken_fault, covered_fault, contract_fault, place_fits}
-use Rattle.settlement.specs.Posting.{Posting}
+use Rattle.std.proofs.lemmas.{List.length-set, Bool.false≢true, Bool.eqb-true, Bool.and_parts, Bool.and_from}
+use Rattle.forms.specs.{declared.Contract.Contract, Meaning.Meaning}
+use Rattle.settlement.specs.{declared.states.State.TheVariants.Closed, ContractFaults.taken_fault, ContractFaults.covered_fault, ContractFaults.contract_fault, ContractFaults.place_fits, Posting.Posting}
 use Rattle.settlement.proofs.FaultTables.{first_met_none}
-use Rattle.standing.specs.Requests.{Opening, hours_in, Request, posting, withdrawal, entering, cancelling, closing}
-use Rattle.standing.specs.Standing.{Standing, nothing_stands, standing_with, placed_with, stands, setting_in}
-use Rattle.standing.specs.Faults.{fault_met}
-use Rattle.standing.specs.Turns.{can_ask, changed, next, standing_after, after}
-use Rattle.standing.proofs.Turns.{next_both}
-use Rattle.standing.proofs.Sound.{MayStand, Sound}
+use Rattle.law.specs.{Requests.Opening, Requests.hours_in, Requests.Request, Requests.posting, Requests.withdrawal, Requests.entering, Requests.cancelling, Requests.closing, Standing.Standing, Standing.nothing_stands, Standing.standing_with, Standing.placed_with, Standing.stands, Standing.setting_in, Faults.fault_met, Turns.can_ask, Turns.changed, Turns.next, Turns.standing_after, Turns.after}
+use Rattle.law.proofs.{Turns.next_both, Sound.MayStand, Sound.Sound}
 
 -- a list that passes still does with one item that passes in another's place
 pub all_of_set : {X : Type 0} (test : X → Bool) (xs : List X) (i : ℕ) (x : X) → list_all test xs ≡ true → test x ≡ true → list_all test (set xs i x) ≡ true

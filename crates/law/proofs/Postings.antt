@@ -1,17 +1,9 @@
 -- Where the same postings stand in two books, energies and peaks are the same. Assumes nothing.
 use Rattle.std.proofs.Common.{◌≡◌, ℕ, ◌<◌, ℤ, ap, arith}
-use Rattle.tally.specs.declared.peak.Peak.{Peak}
-use Rattle.tally.specs.declared.money.MoneyLine.TheVariants.{Power}
-use Rattle.tally.specs.Peak.{peak_of}
-use Rattle.tally.specs.PeakLaws.{peak_lawful}
-use Rattle.tally.specs.Lines.{Lines, lines_joined, alone, balance_of}
-use Rattle.tally.proofs.Sums.{total_over_same}
-use Rattle.tally.proofs.Numbers.{nat_lawful}
+use Rattle.tally.specs.{declared.peak.Peak.Peak, declared.money.MoneyLine.TheVariants.Power, Peak.peak_of, PeakLaws.peak_lawful, Lines.Lines, Lines.lines_joined, Lines.alone, Lines.balance_of}
+use Rattle.tally.proofs.{Sums.total_over_same, Numbers.nat_lawful}
 use Rattle.forms.specs.Meaning.{Meaning}
-use Rattle.standing.specs.Requests.{Opening, hours_in}
-use Rattle.standing.specs.Standing.{Standing}
-use Rattle.standing.specs.Faults.{withdrawn_in, withdrawn_of}
-use Rattle.standing.specs.Worked.{lines_between, power_of, injected_in, injected_of, peak_for, Worked, worked}
+use Rattle.law.specs.{Requests.Opening, Requests.hours_in, Standing.Standing, Faults.withdrawn_in, Faults.withdrawn_of, Worked.lines_between, Worked.power_of, Worked.injected_in, Worked.injected_of, Worked.peak_for, Worked.Worked, Worked.worked}
 
 module _ (o : Opening) (s t : Standing) (same : (hour : ℕ) → hour < hours_in o → s.posted hour ≡ t.posted hour) (i : ℕ) where
   -- what an agent injected

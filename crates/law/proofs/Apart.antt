@@ -1,13 +1,8 @@
 -- A book that hears a list of requests, and one that hears it without those about contracts. Assumes nothing.
 use Rattle.std.proofs.Common.{◌≡◌, Bool, true, false, cond, List, [], ◌∷◌, map, replicate, None, sym, refl, ap, ◌∙◌}
 use Rattle.std.proofs.lemmas.Bool.{true≢false, false≢true}
-use Rattle.forms.specs.Limits.{most_contracts}
-use Rattle.forms.specs.Meaning.{Meaning}
-use Rattle.standing.specs.Requests.{Opening, Request, entering, cancelling, statement, about_contracts, without_contracts, told_without}
-use Rattle.standing.specs.Standing.{Standing, nothing_stands}
-use Rattle.standing.specs.Faults.{fault_met}
-use Rattle.standing.specs.Turns.{Manner, was_done, was_refused, was_skipped, can_ask, judged, manner, left_by, next, standing_after, after}
-use Rattle.standing.specs.Replies.{Reply, told_as, reply, replies_from, manner_of}
+use Rattle.forms.specs.{Limits.most_contracts, Meaning.Meaning}
+use Rattle.law.specs.{Requests.Opening, Requests.Request, Requests.entering, Requests.cancelling, Requests.statement, Requests.about_contracts, Requests.without_contracts, Requests.told_without, Standing.Standing, Standing.nothing_stands, Faults.fault_met, Turns.Manner, Turns.was_done, Turns.was_refused, Turns.was_skipped, Turns.can_ask, Turns.judged, Turns.manner, Turns.left_by, Turns.next, Turns.standing_after, Turns.after, Replies.Reply, Replies.told_as, Replies.reply, Replies.replies_from, Replies.manner_of}
 
 -- what stands, its contracts apart
 abbrev pub apart : Standing → Standing

@@ -1,25 +1,11 @@
 -- No request is refused for a stored figure outside its limit: no table of faults has that one. Assumes nothing.
-use Rattle.std.specs.List.{list_all}
-use Rattle.std.specs.Option.{option_map}
+use Rattle.std.specs.{List.list_all, Option.option_map}
 use Rattle.std.proofs.Common.{◌≡◌, ℕ, Bool, true, false, cond, not, ◌||◌, eqb, ltb, List, [], ◌∷◌, Some, None, Option, refl}
 use Rattle.std.proofs.lemmas.Bool.{and_from}
-use Rattle.packets.specs.declared.faults.ByteFault.{ByteFault}
-use Rattle.packets.specs.declared.faults.ByteFault.TheVariants.{Malformed}
-use Rattle.forms.specs.declared.Contract.{Contract}
-use Rattle.forms.specs.Meaning.{Meaning}
-use Rattle.settlement.specs.declared.faults.BookFault.{BookFault}
-use Rattle.settlement.specs.declared.faults.BookFault.TheVariants.{Posting, OutsideBook, NoCarrier, FreeHour, MissingHour, NoPowerCarrier, ContractNumber, ContractTerms, CoveredHour}
-use Rattle.settlement.specs.declared.faults.LineFault.{LineFault}
-use Rattle.settlement.specs.declared.faults.LineFault.TheVariants.{Packet, HourOutside, OutsideLimit, BreaksRule, TooMuchTogether}
-use Rattle.settlement.specs.ContractFaults.{taken_fault, vacant_fault, covered_fault, covered_in, place_at, contract_faults, contract_fault}
-use Rattle.settlement.specs.Faults.{number_of, met_if, first_met, of_posting}
-use Rattle.settlement.specs.PostingFaults.{hour_fault, posting_faults}
-use Rattle.standing.specs.Law.{unspoilt}
-use Rattle.standing.specs.Requests.{Opening, count_in, hours_in, Request, posting, unread, withdrawal, entering, cancelling, closing, statement}
-use Rattle.standing.specs.Standing.{Standing, stands, setting_in}
-use Rattle.standing.specs.Faults.{closing_faults, fault_met}
-use Rattle.standing.specs.Turns.{was_skipped, can_ask, judged, next}
-use Rattle.standing.specs.Replies.{done, told_as, replies_from}
+use Rattle.packets.specs.declared.faults.ByteFault.{ByteFault, TheVariants.Malformed}
+use Rattle.forms.specs.{declared.Contract.Contract, Meaning.Meaning}
+use Rattle.settlement.specs.{declared.faults.BookFault.BookFault, declared.faults.BookFault.TheVariants.Posting, declared.faults.BookFault.TheVariants.OutsideBook, declared.faults.BookFault.TheVariants.NoCarrier, declared.faults.BookFault.TheVariants.FreeHour, declared.faults.BookFault.TheVariants.MissingHour, declared.faults.BookFault.TheVariants.NoPowerCarrier, declared.faults.BookFault.TheVariants.ContractNumber, declared.faults.BookFault.TheVariants.ContractTerms, declared.faults.BookFault.TheVariants.CoveredHour, declared.faults.LineFault.LineFault, declared.faults.LineFault.TheVariants.Packet, declared.faults.LineFault.TheVariants.HourOutside, declared.faults.LineFault.TheVariants.OutsideLimit, declared.faults.LineFault.TheVariants.BreaksRule, declared.faults.LineFault.TheVariants.TooMuchTogether, ContractFaults.taken_fault, ContractFaults.vacant_fault, ContractFaults.covered_fault, ContractFaults.covered_in, ContractFaults.place_at, ContractFaults.contract_faults, ContractFaults.contract_fault, Faults.number_of, Faults.met_if, Faults.first_met, Faults.of_posting, PostingFaults.hour_fault, PostingFaults.posting_faults}
+use Rattle.law.specs.{Law.unspoilt, Requests.Opening, Requests.count_in, Requests.hours_in, Requests.Request, Requests.posting, Requests.unread, Requests.withdrawal, Requests.entering, Requests.cancelling, Requests.closing, Requests.statement, Standing.Standing, Standing.stands, Standing.setting_in, Faults.closing_faults, Faults.fault_met, Turns.was_skipped, Turns.can_ask, Turns.judged, Turns.next, Replies.done, Replies.told_as, Replies.replies_from}
 
 -- a row of a table: no fault, or one of another number
 abbrev fine : Option BookFault → Bool

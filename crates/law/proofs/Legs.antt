@@ -1,20 +1,14 @@
 -- Where the same contracts stand, under whatever numbers, they give the same, by a form that is alike. Assumes nothing.
-use Rattle.std.specs.List.{list_all}
-use Rattle.std.specs.List.Sorted.{IsPermutation}
+use Rattle.std.specs.List.{list_all, Sorted.IsPermutation}
 use Rattle.std.proofs.Common.{◌≡◌, ℕ, ◌≤◌, Bool, true, List, [], ◌∷◌, ℤ, pos, ◌+ℤ◌, Some, None, Option, sym, refl, ap, ◌∙◌, arith}
 use Rattle.std.proofs.lemmas.Int.{ints}
 use Rattle.calendar.specs.Limits.{most_days}
 use Rattle.tally.specs.Sums.{int_sum_by}
 use Rattle.tally.proofs.Numbers.{int_sum_by-IsPermutation}
-use Rattle.forms.specs.declared.Contract.{Contract}
-use Rattle.forms.specs.Meaning.{Meaning, Keeps, Alike}
-use Rattle.settlement.specs.ContractFaults.{place_fits}
-use Rattle.settlement.specs.Legs.{given_in, contract_points_of}
-use Rattle.settlement.specs.Posting.{Posting}
-use Rattle.settlement.specs.Setting.{Setting}
-use Rattle.settlement.proofs.Checked.{Checked}
-use Rattle.settlement.proofs.ContractLines.{contract_points_alike}
-use Rattle.standing.specs.Level.{standing_contracts}
+use Rattle.forms.specs.{declared.Contract.Contract, Meaning.Meaning, Meaning.Keeps, Meaning.Alike}
+use Rattle.settlement.specs.{ContractFaults.place_fits, Legs.given_in, Legs.contract_points_of, Posting.Posting, Setting.Setting}
+use Rattle.settlement.proofs.{Checked.Checked, ContractLines.contract_points_alike}
+use Rattle.law.specs.Level.{standing_contracts}
 
 module _ (f : Option Contract → ℤ) (none : f None ≡ pos 0) where
   -- where an empty place gives nothing, a sum over places is one over the contracts that stand

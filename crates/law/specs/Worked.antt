@@ -1,23 +1,9 @@
 -- The statement of an agent, worked from what stands as whole numbers. Agents are counted from 0. Assumes nothing.
 use Rattle.std.specs.Prelude.{ℕ, List, ℤ, pos, Some, None, Option}
-use Rattle.tally.specs.declared.peak.Peak.{Peak}
-use Rattle.tally.specs.declared.money.MoneyLine.TheVariants.{Power}
-use Rattle.tally.specs.Peak.{peak_of, no_peak, peak_joined}
-use Rattle.tally.specs.Total.{total_over}
-use Rattle.tally.specs.Lines.{Lines, lines_joined, alone, balance_of}
-use Rattle.tally.specs.Sums.{lines_over, sum_to, sum_to_ℤ, int_sum_over}
+use Rattle.tally.specs.{declared.peak.Peak.Peak, declared.money.MoneyLine.TheVariants.Power, Peak.peak_of, Peak.no_peak, Peak.peak_joined, Total.total_over, Lines.Lines, Lines.lines_joined, Lines.alone, Lines.balance_of, Sums.lines_over, Sums.sum_to, Sums.sum_to_ℤ, Sums.int_sum_over}
 use Rattle.forms.specs.Meaning.{Meaning}
-use Rattle.settlement.specs.declared.states.State.{State}
-use Rattle.settlement.specs.declared.states.State.TheVariants.{Open, Closed}
-use Rattle.settlement.specs.Posting.{line_at, Posting}
-use Rattle.settlement.specs.Power.{power_line}
-use Rattle.settlement.specs.Setting.{Setting}
-use Rattle.settlement.specs.Hour.{Figures, no_figures, residue_of}
-use Rattle.settlement.specs.Legs.{hour_of}
-use Rattle.standing.specs.Requests.{Opening, count_in, hours_in, Request}
-use Rattle.standing.specs.Standing.{Standing, setting_in}
-use Rattle.standing.specs.Faults.{withdrawn_in, withdrawn_of}
-use Rattle.standing.specs.Turns.{after}
+use Rattle.settlement.specs.{declared.states.State.State, declared.states.State.TheVariants.Open, declared.states.State.TheVariants.Closed, Posting.line_at, Posting.Posting, Power.power_line, Setting.Setting, Hour.Figures, Hour.no_figures, Hour.residue_of, Legs.hour_of}
+use Rattle.law.specs.{Requests.Opening, Requests.count_in, Requests.hours_in, Requests.Request, Standing.Standing, Standing.setting_in, Faults.withdrawn_in, Faults.withdrawn_of, Turns.after}
 
 -- an agent's figures of an hour: those of the posting that stands there, with the standing contracts, or none
 abbrev pub figures_from : Setting → (i : ℕ) → Option Posting → Figures

@@ -1,34 +1,14 @@
 -- Only what stands, asked of a book at its opening: all of it is done, and the same stands. Assumes nothing.
-use Rattle.std.specs.List.{list_all}
-use Rattle.std.specs.Option.{option_map}
+use Rattle.std.specs.{List.list_all, Option.option_map}
 use Rattle.std.proofs.Common.{◌≡◌, ℕ, zero, suc, ◌+◌, ◌-◌, ◌<◌, true, cond, not, ◌&&◌, ◌||◌, eqb, ltb, leb, List, [], ◌∷◌, ◌++◌, length, get_or, set, replicate, is_some, Some, None, Option, sym, refl, ap, ◌∙◌, subst, arith}
-use Rattle.std.proofs.lemmas.List.{append_assoc, length_push, get_or_at, set_at}
-use Rattle.std.proofs.lemmas.List.Sorted.{IsPermutation-refl}
-use Rattle.std.proofs.lemmas.Bool.Decides.{nat_tests}
-use Rattle.std.proofs.lemmas.Bool.{le-leb, lt-ltb, le-ltb, and_parts, and_from, cond-true, cond-false}
+use Rattle.std.proofs.lemmas.{List.append_assoc, List.length_push, List.get_or_at, List.set_at, List.Sorted.IsPermutation-refl, Bool.Decides.nat_tests, Bool.le-leb, Bool.lt-ltb, Bool.le-ltb, Bool.and_parts, Bool.and_from, Bool.cond-true, Bool.cond-false}
 use Rattle.tally.specs.Failing.{first_failing}
 use Rattle.tally.proofs.Failing.{first_failing_same, first_failing_none}
-use Rattle.forms.specs.declared.Contract.{Contract}
-use Rattle.forms.specs.Meaning.{Meaning}
-use Rattle.forms.specs.Limits.{most_contracts}
-use Rattle.settlement.specs.declared.faults.BookFault.TheVariants.{MissingHour, NoPowerCarrier, ContractNumber, CoveredHour}
-use Rattle.settlement.specs.declared.states.State.{State}
-use Rattle.settlement.specs.declared.states.State.TheVariants.{Open, Closed}
-use Rattle.settlement.specs.Faults.{met_if, first_met}
-use Rattle.settlement.specs.Power.{power_uncarried}
-use Rattle.settlement.specs.Posting.{Posting}
-use Rattle.settlement.specs.ContractFaults.{contract_fault, contract_fits, place_fits}
+use Rattle.forms.specs.{declared.Contract.Contract, Meaning.Meaning, Limits.most_contracts}
+use Rattle.settlement.specs.{declared.faults.BookFault.TheVariants.MissingHour, declared.faults.BookFault.TheVariants.NoPowerCarrier, declared.faults.BookFault.TheVariants.ContractNumber, declared.faults.BookFault.TheVariants.CoveredHour, declared.states.State.State, declared.states.State.TheVariants.Open, declared.states.State.TheVariants.Closed, Faults.met_if, Faults.first_met, Power.power_uncarried, Posting.Posting, ContractFaults.contract_fault, ContractFaults.contract_fits, ContractFaults.place_fits}
 use Rattle.settlement.proofs.FaultTables.{none_is}
-use Rattle.standing.specs.Requests.{Opening, hours_in, Request, posting, entering, closing, statement}
-use Rattle.standing.specs.Standing.{Standing, nothing_stands, standing_with, stands, setting_in}
-use Rattle.standing.specs.Faults.{withdrawn_of, closing_fault, fault_met}
-use Rattle.standing.specs.Turns.{was_done, can_ask, manner, changed, left_by, next, standing_after, after}
-use Rattle.standing.specs.Level.{Level, standing_contracts}
-use Rattle.standing.specs.Only.{entries_of, posting_at, postings_of, closing_of, only_standing}
-use Rattle.standing.specs.Replies.{done, told_as, reply, replies_from, is_done}
-use Rattle.standing.proofs.Turns.{manner_asked}
-use Rattle.standing.proofs.Postings.{withdrawn_same}
-use Rattle.standing.proofs.Sound.{Sound}
+use Rattle.law.specs.{Requests.Opening, Requests.hours_in, Requests.Request, Requests.posting, Requests.entering, Requests.closing, Requests.statement, Standing.Standing, Standing.nothing_stands, Standing.standing_with, Standing.stands, Standing.setting_in, Faults.withdrawn_of, Faults.closing_fault, Faults.fault_met, Turns.was_done, Turns.can_ask, Turns.manner, Turns.changed, Turns.left_by, Turns.next, Turns.standing_after, Turns.after, Level.Level, Level.standing_contracts, Only.entries_of, Only.posting_at, Only.postings_of, Only.closing_of, Only.only_standing, Replies.done, Replies.told_as, Replies.reply, Replies.replies_from, Replies.is_done}
+use Rattle.law.proofs.{Turns.manner_asked, Postings.withdrawn_same, Sound.Sound}
 
 -- a closing meets the same fault where the same stands in the hours of the month
 closing_same : (o : Opening) (s t : Standing) → ((hour : ℕ) → hour < hours_in o → s.posted hour ≡ t.posted hour) → closing_fault o s ≡ closing_fault o t

@@ -3,21 +3,10 @@ use Rattle.std.proofs.Common.{◌≡◌, ℕ, ◌<◌, List, Some, sym, refl, ap
 use Rattle.tally.specs.LinesLaws.{lines_lawful}
 use Rattle.tally.proofs.Sums.{total_over_same}
 use Rattle.forms.specs.Meaning.{Meaning, Keeps, Alike}
-use Rattle.settlement.specs.declared.agents.Agent.{Agent}
-use Rattle.settlement.specs.Posting.{line_at, Posting}
-use Rattle.settlement.specs.Power.{power_line}
-use Rattle.settlement.specs.Legs.{is_number}
-use Rattle.settlement.specs.Hour.{caused_sum, carried_by, figures_with}
+use Rattle.settlement.specs.{declared.agents.Agent.Agent, Posting.line_at, Posting.Posting, Power.power_line, Legs.is_number, Hour.caused_sum, Hour.carried_by, Hour.figures_with}
 use Rattle.settlement.proofs.Checked.{Checked}
-use Rattle.standing.specs.Requests.{Opening, hours_in}
-use Rattle.standing.specs.Standing.{Standing, setting_in}
-use Rattle.standing.specs.Faults.{withdrawn_of}
-use Rattle.standing.specs.Level.{Level}
-use Rattle.standing.specs.Worked.{figures_from, figures_at, power_in, power_of, worked}
-use Rattle.standing.proofs.Accepted.{at_standing}
-use Rattle.standing.proofs.Legs.{contract_points_level}
-use Rattle.standing.proofs.Postings.{withdrawn_same, worked_same}
-use Rattle.standing.proofs.Sound.{Opened, Sound}
+use Rattle.law.specs.{Requests.Opening, Requests.hours_in, Standing.Standing, Standing.setting_in, Faults.withdrawn_of, Level.Level, Worked.figures_from, Worked.figures_at, Worked.power_in, Worked.power_of, Worked.worked}
+use Rattle.law.proofs.{Accepted.at_standing, Legs.contract_points_level, Postings.withdrawn_same, Postings.worked_same, Sound.Opened, Sound.Sound}
 
 -- the power line depends on what each agent withdrew alone
 power_same : (agents : List Agent) (f g : ℕ → ℕ) → ((j : ℕ) → f j ≡ g j) → (i : ℕ) → power_line agents f i ≡ power_line agents g i

@@ -1,35 +1,15 @@
 -- Nothing that is worked from what stands is too large for memory. Assumes nothing.
 use Rattle.std.proofs.Common.{◌≡◌, ℕ, ◌*◌, ◌<◌, ◌≤◌, ℤ, pos, nat_abs, Some, None, Option, refl, ◌∙◌, subst, arith, w64, SFits}
 use Rattle.std.proofs.lemmas.Int.{ints}
-use Rattle.tally.specs.declared.money.MoneyLine.{MoneyLine}
-use Rattle.tally.specs.declared.money.MoneyLine.TheVariants.{Market, Contract as Contracted, Overcost, Power}
-use Rattle.tally.specs.Lines.{LinesWithin, line_on, no_lines}
-use Rattle.tally.specs.Sums.{sum_to}
-use Rattle.tally.proofs.Numbers.{fits_abs, int_lawful, nat_lawful, nat_sum_over_le}
-use Rattle.tally.proofs.Sums.{total_over_none, total_over_swapped}
-use Rattle.tally.proofs.Lines.{lines_over_within, line_on-over, balance_of_within}
+use Rattle.tally.specs.{declared.money.MoneyLine.MoneyLine, declared.money.MoneyLine.TheVariants.Market, declared.money.MoneyLine.TheVariants.Contract as Contracted, declared.money.MoneyLine.TheVariants.Overcost, declared.money.MoneyLine.TheVariants.Power, Lines.LinesWithin, Lines.line_on, Lines.no_lines, Sums.sum_to}
+use Rattle.tally.proofs.{Numbers.fits_abs, Numbers.int_lawful, Numbers.nat_lawful, Numbers.nat_sum_over_le, Sums.total_over_none, Sums.total_over_swapped, Lines.lines_over_within, Lines.line_on-over, Lines.balance_of_within}
 use Rattle.valuation.specs.Limits.{most_energy}
 use Rattle.valuation.proofs.Amounts.{amount_of_le}
-use Rattle.forms.specs.Meaning.{Meaning, Keeps}
-use Rattle.forms.specs.Limits.{most_leg, most_agents}
-use Rattle.settlement.specs.declared.states.State.{State}
-use Rattle.settlement.specs.declared.states.State.TheVariants.{Open, Closed}
-use Rattle.settlement.specs.Posting.{line_at, Posting}
-use Rattle.settlement.specs.Limits.{most_month_energy, points_per_kw, most_power}
-use Rattle.settlement.specs.Power.{power_line}
-use Rattle.settlement.specs.Setting.{Setting}
-use Rattle.settlement.specs.Legs.{hour_of, contract_line}
-use Rattle.settlement.proofs.Bounds.{Within, excess_le, caused_le, carried_le}
-use Rattle.settlement.proofs.Checked.{Checked}
-use Rattle.settlement.proofs.ContractLines.{contract_line_abs}
-use Rattle.standing.specs.Requests.{Opening, count_in, hours_in}
-use Rattle.standing.specs.Standing.{Standing, setting_in}
-use Rattle.standing.specs.Faults.{withdrawn_in, withdrawn_of}
-use Rattle.standing.specs.Limits.{most_line_of_an_hour, most_line_of_a_month, most_balance}
-use Rattle.standing.specs.Worked.{figures_from, figures_at, lines_between, power_in, power_of, agent_lines, agent_balance, injected_in, injected_of}
-use Rattle.standing.proofs.Accepted.{line_within_at, at_standing}
-use Rattle.standing.proofs.Power.{power_line_le}
-use Rattle.standing.proofs.Sound.{Opened, Sound}
+use Rattle.forms.specs.{Meaning.Meaning, Meaning.Keeps, Limits.most_leg, Limits.most_agents}
+use Rattle.settlement.specs.{declared.states.State.State, declared.states.State.TheVariants.Open, declared.states.State.TheVariants.Closed, Posting.line_at, Posting.Posting, Limits.most_month_energy, Limits.points_per_kw, Limits.most_power, Power.power_line, Setting.Setting, Legs.hour_of, Legs.contract_line}
+use Rattle.settlement.proofs.{Bounds.Within, Bounds.excess_le, Bounds.caused_le, Bounds.carried_le, Checked.Checked, ContractLines.contract_line_abs}
+use Rattle.law.specs.{Requests.Opening, Requests.count_in, Requests.hours_in, Standing.Standing, Standing.setting_in, Faults.withdrawn_in, Faults.withdrawn_of, Limits.most_line_of_an_hour, Limits.most_line_of_a_month, Limits.most_balance, Worked.figures_from, Worked.figures_at, Worked.lines_between, Worked.power_in, Worked.power_of, Worked.agent_lines, Worked.agent_balance, Worked.injected_in, Worked.injected_of}
+use Rattle.law.proofs.{Accepted.line_within_at, Accepted.at_standing, Power.power_line_le, Sound.Opened, Sound.Sound}
 
 -- ---- the energies of an hour
 

@@ -1,21 +1,13 @@
 -- Power lines: what they come to together, and their size. Assumes nothing.
 use Rattle.std.specs.List.{list_all}
 use Rattle.std.proofs.Common.{◌≡◌, ℕ, ◌*◌, ◌<◌, ◌≤◌, true, false, ◌||◌, eqb, leb, is_some, List, length, pos, nat_abs, subst, arith}
-use Rattle.std.proofs.lemmas.Bool.{and_parts, leb-true}
-use Rattle.std.proofs.lemmas.List.FromFn.{length-map-range_with_len}
-use Rattle.std.proofs.lemmas.Int.{ints}
+use Rattle.std.proofs.lemmas.{Bool.and_parts, Bool.leb-true, List.FromFn.length-map-range_with_len, Int.ints}
 use Rattle.tally.specs.Sums.{sum_to, sum_to_ℤ}
-use Rattle.tally.proofs.Failing.{all_each}
-use Rattle.tally.proofs.Numbers.{sum_to_le, sum_to_ℤ_less}
+use Rattle.tally.proofs.{Failing.all_each, Numbers.sum_to_le, Numbers.sum_to_ℤ_less}
 use Rattle.valuation.specs.Limits.{most_energy}
-use Rattle.forms.specs.Limits.{most_agents}
-use Rattle.forms.specs.Roles.{role_of, generates, has_role}
-use Rattle.settlement.specs.declared.agents.Agent.{Agent}
-use Rattle.settlement.specs.Agents.{agent_fits, agent_at, no_agent}
-use Rattle.settlement.specs.Limits.{most_power, points_per_kw}
-use Rattle.settlement.specs.Power.{power_credit, power_due, power_weight, power_weights, power_uncarried, power_part, power_line}
-use Rattle.settlement.proofs.Powers.{power_part_le}
-use Rattle.settlement.proofs.Even.{parts_together}
+use Rattle.forms.specs.{Limits.most_agents, Roles.role_of, Roles.generates, Roles.has_role}
+use Rattle.settlement.specs.{declared.agents.Agent.Agent, Agents.agent_fits, Agents.agent_at, Agents.no_agent, Limits.most_power, Limits.points_per_kw, Power.power_credit, Power.power_due, Power.power_weight, Power.power_weights, Power.power_uncarried, Power.power_part, Power.power_line}
+use Rattle.settlement.proofs.{Powers.power_part_le, Even.parts_together}
 
 -- what can be carried is carried, so that all power lines come to nothing
 pub power_together : (agents : List Agent) (withdrawn : ℕ → ℕ) → power_uncarried agents withdrawn ≡ false → sum_to_ℤ (length agents) (power_line agents withdrawn) ≡ pos 0

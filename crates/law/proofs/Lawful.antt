@@ -3,22 +3,8 @@ use Rattle.std.specs.List.{range_with_len, list_all}
 use Rattle.std.proofs.Common.{◌≡◌, List, map, ℤ, neg_ℤ, sym, refl, ap, ◌∙◌}
 use Rattle.tally.proofs.Numbers.{map_counting_same}
 use Rattle.forms.specs.Meaning.{Meaning, Keeps, Alike}
-use Rattle.standing.specs.Law.{Book, Ran, Settled, unspoilt}
-use Rattle.standing.specs.Requests.{Opening, count_in, Request, without_contracts, told_without}
-use Rattle.standing.specs.Standing.{Standing, nothing_stands}
-use Rattle.standing.specs.Turns.{after}
-use Rattle.standing.specs.Only.{only_standing}
-use Rattle.standing.specs.Worked.{worked, residue_after}
-use Rattle.standing.specs.Replies.{manner_of, is_done}
-use Rattle.standing.proofs.Alike.{replies_alike, after_alike, ran_alike}
-use Rattle.standing.proofs.Again.{again_done, again_level}
-use Rattle.standing.proofs.Apart.{after_apart, alike}
-use Rattle.standing.proofs.Balance.{balanced}
-use Rattle.standing.proofs.Order.{order}
-use Rattle.standing.proofs.Sound.{Opened, Sound}
-use Rattle.standing.proofs.Soundness.{sound_after}
-use Rattle.standing.proofs.Strangers.{strangers}
-use Rattle.standing.proofs.Unspoilt.{unspoilt_told}
+use Rattle.law.specs.{Law.Book, Law.Ran, Law.Settled, Law.unspoilt, Requests.Opening, Requests.count_in, Requests.Request, Requests.without_contracts, Requests.told_without, Standing.Standing, Standing.nothing_stands, Turns.after, Only.only_standing, Worked.worked, Worked.residue_after, Replies.manner_of, Replies.is_done}
+use Rattle.law.proofs.{Alike.replies_alike, Alike.after_alike, Alike.ran_alike, Again.again_done, Again.again_level, Apart.after_apart, Apart.alike, Balance.balanced, Order.order, Sound.Opened, Sound.Sound, Soundness.sound_after, Strangers.strangers, Unspoilt.unspoilt_told}
 
 module _ (form : Meaning) (keeps : Keeps form) (o : Opening) (opened : Opened o) (requests : List Request) where
   -- what stands after the list, after the list without contracts, and after only what stands

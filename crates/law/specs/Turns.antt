@@ -1,12 +1,8 @@
 -- How a request is answered, and what then stands. Assumes nothing.
 use Rattle.std.specs.Prelude.{Bool, true, false, if◌then◌else◌, List, [], ◌∷◌, Some, None, Option}
 use Rattle.forms.specs.Meaning.{Meaning}
-use Rattle.settlement.specs.declared.faults.BookFault.{BookFault}
-use Rattle.settlement.specs.declared.states.State.{State}
-use Rattle.settlement.specs.declared.states.State.TheVariants.{Open, Closed}
-use Rattle.standing.specs.Requests.{Opening, Request, posting, withdrawal, entering, cancelling, closing, statement}
-use Rattle.standing.specs.Standing.{Standing, nothing_stands, standing_with, placed_with}
-use Rattle.standing.specs.Faults.{fault_met}
+use Rattle.settlement.specs.declared.{faults.BookFault.BookFault, states.State.State, states.State.TheVariants.Open, states.State.TheVariants.Closed}
+use Rattle.law.specs.{Requests.Opening, Requests.Request, Requests.posting, Requests.withdrawal, Requests.entering, Requests.cancelling, Requests.closing, Requests.statement, Standing.Standing, Standing.nothing_stands, Standing.standing_with, Standing.placed_with, Faults.fault_met}
 
 -- whether a host has a way to ask it: of an open month anything, of a closed one only statements
 abbrev pub can_ask : State → Request → Bool

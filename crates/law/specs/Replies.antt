@@ -2,10 +2,7 @@
 use Rattle.std.specs.Prelude.{◌-◌, Bool, true, false, List, [], ◌∷◌}
 use Rattle.forms.specs.Meaning.{Meaning}
 use Rattle.settlement.specs.declared.faults.BookFault.{BookFault}
-use Rattle.standing.specs.Requests.{Opening, Request, statement}
-use Rattle.standing.specs.Standing.{Standing, nothing_stands}
-use Rattle.standing.specs.Turns.{Manner, was_done, was_refused, was_skipped, manner, next}
-use Rattle.standing.specs.Worked.{Worked, worked}
+use Rattle.law.specs.{Requests.Opening, Requests.Request, Requests.statement, Standing.Standing, Standing.nothing_stands, Turns.Manner, Turns.was_done, Turns.was_refused, Turns.was_skipped, Turns.manner, Turns.next, Worked.Worked, Worked.worked}
 
 -- what a host is told: done; the statement; refused for a fault; or that there was no way to ask it
 pub data Reply : Type 0 where

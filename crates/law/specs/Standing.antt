@@ -1,13 +1,8 @@
 -- What stands: postings, contracts, and whether the month is open. Nothing here knows of memory. Assumes nothing.
 use Rattle.std.specs.Prelude.{ℕ, ◌-◌, List, replicate, is_some, None, Option, ◌==◌, slice_set, Bool, if◌then◌else◌}
-use Rattle.forms.specs.declared.Contract.{Contract}
-use Rattle.forms.specs.Meaning.{Meaning}
-use Rattle.forms.specs.Limits.{most_contracts}
-use Rattle.settlement.specs.declared.states.State.{State}
-use Rattle.settlement.specs.declared.states.State.TheVariants.{Open}
-use Rattle.settlement.specs.Posting.{Posting}
-use Rattle.settlement.specs.Setting.{Setting}
-use Rattle.standing.specs.Requests.{Opening}
+use Rattle.forms.specs.{declared.Contract.Contract, Meaning.Meaning, Limits.most_contracts}
+use Rattle.settlement.specs.{declared.states.State.State, declared.states.State.TheVariants.Open, Posting.Posting, Setting.Setting}
+use Rattle.law.specs.Requests.{Opening}
 
 -- what stands: at each hour a posting, or none; in each place a contract, or none; and the month is open or closed
 pub record Standing : Type 0 where

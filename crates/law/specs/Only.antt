@@ -1,11 +1,8 @@
 -- Only what stands, as a list of requests. Assumes nothing.
 use Rattle.std.specs.Prelude.{ℕ, zero, suc, ◌+◌, List, [], ◌∷◌, ◌++◌, Some, None, Option}
 use Rattle.forms.specs.declared.Contract.{Contract}
-use Rattle.settlement.specs.declared.states.State.{State}
-use Rattle.settlement.specs.declared.states.State.TheVariants.{Open, Closed}
-use Rattle.settlement.specs.Posting.{Posting}
-use Rattle.standing.specs.Requests.{Opening, hours_in, Request, posting, entering, closing}
-use Rattle.standing.specs.Standing.{Standing}
+use Rattle.settlement.specs.{declared.states.State.State, declared.states.State.TheVariants.Open, declared.states.State.TheVariants.Closed, Posting.Posting}
+use Rattle.law.specs.{Requests.Opening, Requests.hours_in, Requests.Request, Requests.posting, Requests.entering, Requests.closing, Standing.Standing}
 
 -- the contracts of a list of places, of which the first has this number
 abbrev pub entries_of : (number : ℕ) → List (Option Contract) → List Request

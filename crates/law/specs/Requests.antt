@@ -1,11 +1,9 @@
 -- A book's opening, and what its host asks of it, as the subject has them. Assumes nothing.
 use Rattle.std.specs.Prelude.{ℕ, Bool, true, false, if◌then◌else◌, List, [], ◌∷◌, length}
-use Rattle.calendar.specs.declared.calendars.Calendar.{Calendar}
-use Rattle.calendar.specs.Limits.{hours_of}
+use Rattle.calendar.specs.{declared.calendars.Calendar.Calendar, Limits.hours_of}
 use Rattle.packets.specs.declared.faults.ByteFault.{ByteFault}
 use Rattle.forms.specs.declared.Contract.{Contract}
-use Rattle.settlement.specs.declared.agents.Agent.{Agent}
-use Rattle.settlement.specs.Posting.{Posting}
+use Rattle.settlement.specs.{declared.agents.Agent.Agent, Posting.Posting}
 
 -- what a book is opened with: its agents, and the days of its month, which follow a calendar
 pub record Opening : Type 0 where

@@ -1,30 +1,12 @@
 -- Two forms of the same meaning give the same answers, whole, and leave the same standing. Assumes nothing.
 use Rattle.std.specs.List.{list_all}
 use Rattle.std.proofs.Common.{◌≡◌, ℕ, ◌-◌, Bool, true, false, cond, not, ◌&&◌, List, [], ◌∷◌, Option, sym, refl, ap, ◌∙◌}
-use Rattle.std.proofs.lemmas.Bool.{and_parts}
-use Rattle.std.proofs.lemmas.List.Sorted.{IsPermutation-refl}
-use Rattle.tally.proofs.Numbers.{map_counting_same, int_lawful}
-use Rattle.tally.proofs.Sums.{total_over_same}
-use Rattle.forms.specs.declared.Contract.{Contract}
-use Rattle.forms.specs.declared.Parties.{Parties}
-use Rattle.forms.specs.Meaning.{Meaning, Keeps, Alike}
-use Rattle.forms.specs.Terms.{number_fits, numbers_apart, party_fits, parties_fit, figures_fit, hours_fit}
-use Rattle.forms.specs.Parties.{party_numbers, members_of}
-use Rattle.settlement.specs.declared.faults.BookFault.{BookFault}
-use Rattle.settlement.specs.declared.faults.BookFault.TheVariants.{ContractTerms}
-use Rattle.settlement.specs.ContractFaults.{parties_of, in_book, taken_fault, covered_fault, contract_fault}
-use Rattle.settlement.specs.Faults.{met_if, first_met}
-use Rattle.standing.specs.Law.{Book, Ran}
-use Rattle.standing.specs.Requests.{Opening, count_in, hours_in, Request, entering, statement}
-use Rattle.standing.specs.Standing.{Standing, nothing_stands, stands, setting_in}
-use Rattle.standing.specs.Faults.{fault_met}
-use Rattle.standing.specs.Turns.{Manner, was_done, was_skipped, can_ask, judged, manner, left_by, next, standing_after, after}
-use Rattle.standing.specs.Level.{Level, standing_contracts}
-use Rattle.standing.specs.Worked.{worked, agent_balance}
-use Rattle.standing.specs.Replies.{stated, told_as, reply, replies_from}
-use Rattle.standing.proofs.Order.{order}
-use Rattle.standing.proofs.Sound.{Opened, Sound}
-use Rattle.standing.proofs.Soundness.{sound_none, sound_next, sound_after}
+use Rattle.std.proofs.lemmas.{Bool.and_parts, List.Sorted.IsPermutation-refl}
+use Rattle.tally.proofs.{Numbers.map_counting_same, Numbers.int_lawful, Sums.total_over_same}
+use Rattle.forms.specs.{declared.Contract.Contract, declared.Parties.Parties, Meaning.Meaning, Meaning.Keeps, Meaning.Alike, Terms.number_fits, Terms.numbers_apart, Terms.party_fits, Terms.parties_fit, Terms.figures_fit, Terms.hours_fit, Parties.party_numbers, Parties.members_of}
+use Rattle.settlement.specs.{declared.faults.BookFault.BookFault, declared.faults.BookFault.TheVariants.ContractTerms, ContractFaults.parties_of, ContractFaults.in_book, ContractFaults.taken_fault, ContractFaults.covered_fault, ContractFaults.contract_fault, Faults.met_if, Faults.first_met}
+use Rattle.law.specs.{Law.Book, Law.Ran, Requests.Opening, Requests.count_in, Requests.hours_in, Requests.Request, Requests.entering, Requests.statement, Standing.Standing, Standing.nothing_stands, Standing.stands, Standing.setting_in, Faults.fault_met, Turns.Manner, Turns.was_done, Turns.was_skipped, Turns.can_ask, Turns.judged, Turns.manner, Turns.left_by, Turns.next, Turns.standing_after, Turns.after, Level.Level, Level.standing_contracts, Worked.worked, Worked.agent_balance, Replies.stated, Replies.told_as, Replies.reply, Replies.replies_from}
+use Rattle.law.proofs.{Order.order, Sound.Opened, Sound.Sound, Soundness.sound_none, Soundness.sound_next, Soundness.sound_after}
 
 -- what stands is the same as itself
 pub level_itself : (o : Opening) (s : Standing) → Level o s s

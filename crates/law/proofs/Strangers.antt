@@ -3,23 +3,11 @@ use Rattle.std.specs.List.{zip, list_any}
 use Rattle.std.proofs.Common.{◌≡◌, ℕ, ◌<◌, Bool, true, false, cond, not, List, [], ◌∷◌, ℤ, pos, ◌+ℤ◌, Some, None, Option, sym, refl, ap, ◌∙◌}
 use Rattle.std.proofs.lemmas.Bool.{or_parts, not-true}
 use Rattle.tally.specs.LinesLaws.{lines_lawful}
-use Rattle.tally.proofs.Sums.{total_over_same, All-passing}
-use Rattle.tally.proofs.Numbers.{int_sum_by_zero}
-use Rattle.forms.specs.declared.Contract.{Contract}
-use Rattle.forms.specs.Meaning.{Meaning}
-use Rattle.forms.specs.Parties.{party_numbers, points_of}
-use Rattle.settlement.specs.ContractFaults.{covers}
-use Rattle.settlement.specs.Posting.{line_at, Posting}
-use Rattle.settlement.specs.Setting.{Setting}
-use Rattle.settlement.specs.Legs.{is_number, given_to, given_in, legs_of, contract_line}
-use Rattle.settlement.specs.Hour.{caused_sum, carried_by, figures_with}
-use Rattle.standing.specs.Requests.{Opening, count_in, hours_in, Request, without_contracts}
-use Rattle.standing.specs.Standing.{Standing, setting_in}
-use Rattle.standing.specs.Turns.{after}
-use Rattle.standing.specs.Parties.{is_party, is_stranger}
-use Rattle.standing.specs.Worked.{figures_from, figures_at, lines_between, worked}
-use Rattle.standing.proofs.Apart.{apart, after_apart}
-use Rattle.standing.proofs.Postings.{worked_same}
+use Rattle.tally.proofs.{Sums.total_over_same, Sums.All-passing, Numbers.int_sum_by_zero}
+use Rattle.forms.specs.{declared.Contract.Contract, Meaning.Meaning, Parties.party_numbers, Parties.points_of}
+use Rattle.settlement.specs.{ContractFaults.covers, Posting.line_at, Posting.Posting, Setting.Setting, Legs.is_number, Legs.given_to, Legs.given_in, Legs.legs_of, Legs.contract_line, Hour.caused_sum, Hour.carried_by, Hour.figures_with}
+use Rattle.law.specs.{Requests.Opening, Requests.count_in, Requests.hours_in, Requests.Request, Requests.without_contracts, Standing.Standing, Standing.setting_in, Turns.after, Parties.is_party, Parties.is_stranger, Worked.figures_from, Worked.figures_at, Worked.lines_between, Worked.worked}
+use Rattle.law.proofs.{Apart.apart, Apart.after_apart, Postings.worked_same}
 
 -- either way it is the same
 either : {X : Type 0} (test : Bool) (x : X) → cond test x x ≡ x

@@ -1,8 +1,7 @@
 -- Who is party to the contracts that stand. Assumes nothing.
 use Rattle.std.specs.Prelude.{ℕ, ◌+◌, Bool, false, not, List, Some, None, Option}
 use Rattle.std.specs.List.{list_all}
-use Rattle.forms.specs.declared.Contract.{Contract}
-use Rattle.forms.specs.Parties.{is_party_number}
+use Rattle.forms.specs.{declared.Contract.Contract, Parties.is_party_number}
 
 -- whether an agent, counted from 0, is a party to what is in a contract place
 abbrev pub is_party : ℕ → Option Contract → Bool

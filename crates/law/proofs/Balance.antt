@@ -1,27 +1,13 @@
 -- All balances together are minus the residue of the standing hours. Assumes nothing.
 use Rattle.std.proofs.Common.{◌≡◌, ℕ, ◌+◌, ◌<◌, ◌≤◌, false, ℤ, pos, ◌+ℤ◌, neg_ℤ, sym, refl, ap, ◌∙◌, arith}
 use Rattle.std.proofs.lemmas.Int.{ints}
-use Rattle.tally.specs.declared.money.MoneyLine.{MoneyLine}
-use Rattle.tally.specs.declared.money.MoneyLine.TheVariants.{Market, Power}
-use Rattle.tally.specs.Lines.{no_lines, lines_joined, alone, balance_of}
-use Rattle.tally.specs.Sums.{int_sum_over, lines_over, sum_to_ℤ}
-use Rattle.tally.specs.LinesLaws.{lines_lawful}
-use Rattle.tally.proofs.Sums.{total_over_same, total_over_map, total_over_none, total_over_joined, total_over_swapped}
-use Rattle.tally.proofs.Lines.{balance_of-over, alone-none, alone-joined}
-use Rattle.tally.proofs.Numbers.{int_sum_over_neg, int_lawful}
+use Rattle.tally.specs.{declared.money.MoneyLine.MoneyLine, declared.money.MoneyLine.TheVariants.Market, declared.money.MoneyLine.TheVariants.Power, Lines.no_lines, Lines.lines_joined, Lines.alone, Lines.balance_of, Sums.int_sum_over, Sums.lines_over, Sums.sum_to_ℤ, LinesLaws.lines_lawful}
+use Rattle.tally.proofs.{Sums.total_over_same, Sums.total_over_map, Sums.total_over_none, Sums.total_over_joined, Sums.total_over_swapped, Lines.balance_of-over, Lines.alone-none, Lines.alone-joined, Numbers.int_sum_over_neg, Numbers.int_lawful}
 use Rattle.forms.specs.Meaning.{Meaning, Keeps}
-use Rattle.settlement.specs.declared.states.State.{State}
-use Rattle.settlement.specs.declared.states.State.TheVariants.{Open, Closed}
-use Rattle.settlement.specs.Power.{power_uncarried, power_line}
-use Rattle.settlement.proofs.FaultTables.{unmet, first_met_none}
-use Rattle.settlement.proofs.Even.{even, even_lines}
-use Rattle.standing.specs.Requests.{Opening, count_in, hours_in}
-use Rattle.standing.specs.Standing.{Standing, setting_in}
-use Rattle.standing.specs.Faults.{withdrawn_of, closing_faults}
-use Rattle.standing.specs.Worked.{figures_from, figures_at, lines_between, power_in, power_of, agent_lines, balances_after, residue_from, residue_between, residue_after}
-use Rattle.standing.proofs.Accepted.{at_standing}
-use Rattle.standing.proofs.Power.{power_together}
-use Rattle.standing.proofs.Sound.{Opened, Sound}
+use Rattle.settlement.specs.{declared.states.State.State, declared.states.State.TheVariants.Open, declared.states.State.TheVariants.Closed, Power.power_uncarried, Power.power_line}
+use Rattle.settlement.proofs.{FaultTables.unmet, FaultTables.first_met_none, Even.even, Even.even_lines}
+use Rattle.law.specs.{Requests.Opening, Requests.count_in, Requests.hours_in, Standing.Standing, Standing.setting_in, Faults.withdrawn_of, Faults.closing_faults, Worked.figures_from, Worked.figures_at, Worked.lines_between, Worked.power_in, Worked.power_of, Worked.agent_lines, Worked.balances_after, Worked.residue_from, Worked.residue_between, Worked.residue_after}
+use Rattle.law.proofs.{Accepted.at_standing, Power.power_together, Sound.Opened, Sound.Sound}
 
 -- ---- sums of lines
 

@@ -1,19 +1,10 @@
 -- The fault that a request meets against what stands. Assumes nothing.
 use Rattle.std.specs.Prelude.{ℕ, not, ◌||◌, List, [], ◌∷◌, Some, None, Option, ◌==◌, nat_lt}
 use Rattle.std.specs.Option.{option_map}
-use Rattle.tally.specs.Failing.{first_failing}
-use Rattle.tally.specs.Sums.{sum_to}
+use Rattle.tally.specs.{Failing.first_failing, Sums.sum_to}
 use Rattle.forms.specs.Meaning.{Meaning}
-use Rattle.settlement.specs.declared.faults.BookFault.{BookFault}
-use Rattle.settlement.specs.declared.faults.BookFault.TheVariants.{Posting as PostingFault, OutsideBook, FreeHour, MissingHour, NoPowerCarrier}
-use Rattle.settlement.specs.declared.faults.LineFault.TheVariants.{Packet}
-use Rattle.settlement.specs.ContractFaults.{taken_fault, vacant_fault, covered_fault, covered_in, place_at, contract_fault}
-use Rattle.settlement.specs.Faults.{met_if, first_met, of_posting}
-use Rattle.settlement.specs.Posting.{line_at, Posting}
-use Rattle.settlement.specs.PostingFaults.{hour_fault, posting_fault}
-use Rattle.settlement.specs.Power.{power_uncarried}
-use Rattle.standing.specs.Requests.{Opening, count_in, hours_in, Request, posting, unread, withdrawal, entering, cancelling, closing, statement}
-use Rattle.standing.specs.Standing.{Standing, stands, setting_in}
+use Rattle.settlement.specs.{declared.faults.BookFault.BookFault, declared.faults.BookFault.TheVariants.Posting as PostingFault, declared.faults.BookFault.TheVariants.OutsideBook, declared.faults.BookFault.TheVariants.FreeHour, declared.faults.BookFault.TheVariants.MissingHour, declared.faults.BookFault.TheVariants.NoPowerCarrier, declared.faults.LineFault.TheVariants.Packet, ContractFaults.taken_fault, ContractFaults.vacant_fault, ContractFaults.covered_fault, ContractFaults.covered_in, ContractFaults.place_at, ContractFaults.contract_fault, Faults.met_if, Faults.first_met, Faults.of_posting, Posting.line_at, Posting.Posting, PostingFaults.hour_fault, PostingFaults.posting_fault, Power.power_uncarried}
+use Rattle.law.specs.{Requests.Opening, Requests.count_in, Requests.hours_in, Requests.Request, Requests.posting, Requests.unread, Requests.withdrawal, Requests.entering, Requests.cancelling, Requests.closing, Requests.statement, Standing.Standing, Standing.stands, Standing.setting_in}
 
 -- the energy that an agent, counted from 0, withdrew in an hour
 abbrev pub withdrawn_in : ℕ → Option Posting → ℕ

@@ -1,13 +1,10 @@
 -- What stands at an hour: no posting, or one that met no fault. Assumes nothing.
 use Rattle.std.proofs.Common.{◌≡◌, ℕ, ◌<◌, length, Some, None, Option, refl, subst, arith}
 use Rattle.forms.specs.Meaning.{Meaning}
-use Rattle.settlement.specs.Posting.{Posting, line_at}
-use Rattle.settlement.specs.Setting.{Setting}
-use Rattle.settlement.proofs.Bounds.{Within, within_limits}
-use Rattle.settlement.proofs.Checked.{Checked, checked}
-use Rattle.standing.specs.Requests.{Opening, hours_in}
-use Rattle.standing.specs.Standing.{Standing, setting_in}
-use Rattle.standing.proofs.Sound.{Opened, Sound}
+use Rattle.settlement.specs.{Posting.Posting, Posting.line_at, Setting.Setting}
+use Rattle.settlement.proofs.{Bounds.Within, Bounds.within_limits, Checked.Checked, Checked.checked}
+use Rattle.law.specs.{Requests.Opening, Requests.hours_in, Standing.Standing, Standing.setting_in}
+use Rattle.law.proofs.Sound.{Opened, Sound}
 
 -- the line of each agent is within its limits
 pub line_within_at : (setting : Setting) (p : Posting) → Checked setting p → (i : ℕ) → i < length setting.agents → Within (line_at p.lines i)
