@@ -1,30 +1,15 @@
 -- What the counts of an audit come to where the law holds. Assumes nothing.
 use Rattle.std.proofs.Common.{◌≡◌, ℕ, zero, suc, ◌+◌, ◌<◌, Bool, true, false, cond, not, ◌&&◌, eqb, List, [], ◌∷◌, map, length, get_or, Option, sym, refl, ap, ◌∙◌, arith, ℤ, w64, of_z}
 use Rattle.std.specs.List.{filter, zip, range_with_len}
-use Rattle.std.proofs.lemmas.Bool.{eq-eqb, and_from}
+use Rattle.std.proofs.lemmas.{Bool.eq-eqb, Bool.and_from, List.FromFn.get_or-map-range_with_len}
 use Rattle.std.proofs.Math.ListN.{get_or-map}
-use Rattle.std.proofs.lemmas.List.FromFn.{get_or-map-range_with_len}
-use Rattle.forms.specs.declared.Contract.{Contract}
-use Rattle.forms.specs.Meaning.{Meaning}
-use Rattle.settlement.specs.declared.agents.Agent.{Agent}
-use Rattle.settlement.specs.Faults.{number_of, place_of}
-use Rattle.book.specs.declared.months.MonthFigures.{MonthFigures}
-use Rattle.book.specs.Memory.{Memory}
-use Rattle.book.specs.declared.statements.Statement.{Statement}
-use Rattle.standing.specs.Parties.{is_stranger}
-use Rattle.standing.specs.Replies.{Reply, manner_of}
-use Rattle.standing.specs.Requests.{count_in, about_contracts, without_contracts, told_without}
-use Rattle.standing.specs.Turns.{Manner, was_done, was_refused, was_skipped}
-use Rattle.standing.specs.Worked.{Worked}
-use Rattle.runs.specs.declared.calls.Call.{Call}
-use Rattle.runs.specs.Reading.{request_of, Answer, reply_of, worked_in}
-use Rattle.runs.specs.Runs.{no_statement, all_done}
-use Rattle.audit.specs.declared.audits.Report.{Report}
-use Rattle.audit.specs.Audits.{SettledIn}
-use Rattle.audit.specs.Cases.{Case, case_of, opening_in, standing_in, again, answered}
-use Rattle.audit.specs.Found.{Found}
+use Rattle.forms.specs.{declared.Contract.Contract, Meaning.Meaning}
+use Rattle.settlement.specs.{declared.agents.Agent.Agent, Faults.number_of, Faults.place_of}
+use Rattle.book.specs.{declared.months.MonthFigures.MonthFigures, Memory.Memory, declared.statements.Statement.Statement}
+use Rattle.law.specs.{Parties.is_stranger, Replies.Reply, Replies.manner_of, Requests.count_in, Requests.about_contracts, Requests.without_contracts, Requests.told_without, Turns.Manner, Turns.was_done, Turns.was_refused, Turns.was_skipped, Worked.Worked}
+use Rattle.runs.specs.{declared.calls.Call.Call, Reading.request_of, Reading.Answer, Reading.reply_of, Reading.worked_in, Runs.no_statement, Runs.all_done}
+use Rattle.audit.specs.{declared.audits.Report.Report, Audits.SettledIn, Cases.Case, Cases.case_of, Cases.opening_in, Cases.standing_in, Cases.again, Cases.answered, Found.Found, Compared.same_manner, Compared.same_answer, Compared.heard_by_both, Compared.heard_in, Compared.alike_in, Compared.same_statement, Compared.same_number, Compared.same_lines, Compared.same_in, Compared.Compared, Compared.Agrees}
 use Rattle.audit.proofs.Audited.{done_told}
-use Rattle.audit.specs.Compared.{same_manner, same_answer, heard_by_both, heard_in, alike_in, same_statement, same_number, same_lines, same_in, Compared, Agrees}
 
 -- ---- answers
 

@@ -2,12 +2,10 @@
 use Rattle.std.proofs.Common.{◌≡◌, ℕ, zero, suc, ◌+◌, ◌<◌, Bool, true, false, ◌&&◌, List, [], ◌∷◌, ◌++◌, length, get_or, take, Some, None, Option, sym, refl, ap, ◌∙◌, append_assoc, add-one, arith}
 use Rattle.std.specs.List.{list_all}
 use Rattle.std.proofs.lemmas.List.{take_more, length-take, append-nil}
-use Rattle.forms.specs.declared.Contract.{Contract}
-use Rattle.forms.specs.Meaning.{Meaning}
+use Rattle.forms.specs.{declared.Contract.Contract, Meaning.Meaning}
 use Rattle.settlement.specs.Posting.{Posting}
 use Rattle.book.specs.declared.months.MonthFigures.{MonthFigures}
-use Rattle.standing.specs.Requests.{Request, entering}
-use Rattle.standing.specs.Only.{entries_of, posting_at, postings_of}
+use Rattle.law.specs.{Requests.Request, Requests.entering, Only.entries_of, Only.posting_at, Only.postings_of}
 use Rattle.runs.specs.Runs.{Kept, turn, answers_to, kept_after, all_done}
 use Rattle.audit.specs.Again.{Running, heard_anew}
 

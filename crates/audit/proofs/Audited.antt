@@ -3,25 +3,13 @@ use Rattle.std.proofs.Common.{◌≡◌, ℕ, Bool, true, false, ◌&&◌, eqb, 
 use Rattle.std.specs.List.{list_all}
 use Rattle.std.proofs.lemmas.Bool.{and_parts, eqb-true}
 use Rattle.forms.specs.Meaning.{Keeps}
-use Rattle.settlement.specs.declared.agents.Agent.{Agent}
-use Rattle.settlement.specs.declared.states.State.TheVariants.{Open}
-use Rattle.book.specs.declared.months.MonthFigures.{MonthFigures}
-use Rattle.book.specs.declared.statements.Statement.{Statement}
-use Rattle.book.specs.Memory.{Memory}
-use Rattle.book.specs.Opening.{open_fault}
-use Rattle.standing.specs.Law.{Book, Ran}
-use Rattle.standing.specs.Replies.{Reply, is_done}
-use Rattle.standing.specs.Requests.{Request, told_without}
-use Rattle.standing.specs.Worked.{residue_after}
-use Rattle.standing.proofs.Lawful.{settled}
-use Rattle.standing.proofs.Sound.{Opened}
-use Rattle.runs.specs.Reading.{opening_of, Answer, reply_of}
-use Rattle.runs.specs.Runs.{Kept, kept_of, answers_to, kept_after, all_done, statements_in, statements_fault, together}
+use Rattle.settlement.specs.declared.{agents.Agent.Agent, states.State.TheVariants.Open}
+use Rattle.book.specs.{declared.months.MonthFigures.MonthFigures, declared.statements.Statement.Statement, Memory.Memory, Opening.open_fault}
+use Rattle.law.specs.{Law.Book, Law.Ran, Replies.Reply, Replies.is_done, Requests.Request, Requests.told_without, Worked.residue_after}
+use Rattle.law.proofs.{Lawful.settled, Sound.Opened}
+use Rattle.runs.specs.{Reading.opening_of, Reading.Answer, Reading.reply_of, Runs.Kept, Runs.kept_of, Runs.answers_to, Runs.kept_after, Runs.all_done, Runs.statements_in, Runs.statements_fault, Runs.together}
 use Rattle.runs.proofs.Books.{heard_by, told_by, is_opened, kept_holds, kept_opens, kept_emptied, kept_states, kept_ran}
-use Rattle.audit.specs.declared.audits.Report.{Report}
-use Rattle.audit.specs.Audits.{book_of, AllRan, SettledIn}
-use Rattle.audit.specs.Cases.{Case, opening_in, standing_in, again, begun, ended, answered}
-use Rattle.audit.specs.Found.{Found, places_fit}
+use Rattle.audit.specs.{declared.audits.Report.Report, Audits.book_of, Audits.AllRan, Audits.SettledIn, Cases.Case, Cases.opening_in, Cases.standing_in, Cases.again, Cases.begun, Cases.ended, Cases.answered, Found.Found, Found.places_fit}
 
 -- all that was answered was done
 pub done_told : (answers : List Answer) → all_done answers ≡ list_all is_done (map reply_of answers)

@@ -4,18 +4,11 @@ use Rattle.std.specs.Option.{option_map}
 use Rattle.forms.specs.Meaning.{Meaning, Keeps}
 use Rattle.calendar.specs.Limits.{hours_of}
 use Rattle.packets.specs.declared.faults.ByteFault.{ByteFault}
-use Rattle.settlement.specs.Posting.{Posting}
-use Rattle.settlement.specs.PostingFaults.{PostingFits}
+use Rattle.settlement.specs.{Posting.Posting, PostingFaults.PostingFits}
 use Rattle.settlement.proofs.Checked.{checked}
-use Rattle.standing.specs.Only.{posting_at}
-use Rattle.standing.specs.Replies.{accepted, done, told_as, reply, replies_from}
-use Rattle.standing.specs.Requests.{Opening, Request, posting, unread, withdrawal, entering, cancelling, closing, statement}
-use Rattle.standing.specs.Standing.{Standing, nothing_stands, setting_in}
-use Rattle.standing.specs.Turns.{Manner, was_done, was_refused, was_skipped, manner, changed, left_by, next, standing_after}
-use Rattle.standing.proofs.Sound.{Opened}
-use Rattle.standing.proofs.Soundness.{sound_after}
-use Rattle.runs.specs.declared.calls.Call.{Call}
-use Rattle.runs.specs.Reading.{opening_of, request_in, request_of, Answer, reply_of}
+use Rattle.law.specs.{Only.posting_at, Replies.accepted, Replies.done, Replies.told_as, Replies.reply, Replies.replies_from, Requests.Opening, Requests.Request, Requests.posting, Requests.unread, Requests.withdrawal, Requests.entering, Requests.cancelling, Requests.closing, Requests.statement, Standing.Standing, Standing.nothing_stands, Standing.setting_in, Turns.Manner, Turns.was_done, Turns.was_refused, Turns.was_skipped, Turns.manner, Turns.changed, Turns.left_by, Turns.next, Turns.standing_after}
+use Rattle.law.proofs.{Sound.Opened, Soundness.sound_after}
+use Rattle.runs.specs.{declared.calls.Call.Call, Reading.opening_of, Reading.request_in, Reading.request_of, Reading.Answer, Reading.reply_of}
 use Rattle.runs.proofs.Books.{is_opened, kept_told}
 use Rattle.audit.specs.Cases.{Case, opening_in, standing_in, FirstAnswers, Posts}
 

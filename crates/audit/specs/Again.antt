@@ -1,11 +1,9 @@
 -- A book that hears further requests anew. Assumes nothing.
 use Rattle.std.specs.Prelude.{Bool, true, ◌&&◌, List}
 use Rattle.forms.specs.Meaning.{Meaning}
-use Rattle.book.specs.declared.months.MonthFigures.{MonthFigures}
-use Rattle.book.specs.Memory.{Memory}
-use Rattle.standing.specs.Requests.{Request}
-use Rattle.runs.specs.Reading.{state_of, figures_in}
-use Rattle.runs.specs.Runs.{Kept, kept_of, answers_to, kept_after, all_done}
+use Rattle.book.specs.{declared.months.MonthFigures.MonthFigures, Memory.Memory}
+use Rattle.law.specs.Requests.{Request}
+use Rattle.runs.specs.{Reading.state_of, Reading.figures_in, Runs.Kept, Runs.kept_of, Runs.answers_to, Runs.kept_after, Runs.all_done}
 use Rattle.audit.specs.declared.again.Rerun.{Rerun}
 
 -- the figures of its month, how it is kept, and whether all requests so far were done

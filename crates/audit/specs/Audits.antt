@@ -1,21 +1,10 @@
 -- When an audit is refused, that its books were run on memory, and that the law holds of them. Assumes nothing.
 use Rattle.std.specs.Prelude.{◌≡◌, ℕ, Bool, true, false, not, List, [], ◌∷◌, map, length, ℤ, Option}
-use Rattle.settlement.specs.declared.faults.BookFault.{BookFault}
-use Rattle.settlement.specs.declared.faults.BookFault.TheVariants.{WrongSize, OutsideBook}
-use Rattle.settlement.specs.Faults.{met_if, first_met}
-use Rattle.book.specs.declared.months.MonthFigures.{MonthFigures}
-use Rattle.book.specs.declared.statements.Statement.{Statement}
-use Rattle.book.specs.Memory.{Memory}
-use Rattle.book.specs.Months.{size_known}
-use Rattle.book.specs.Opening.{open_fault}
-use Rattle.standing.specs.Law.{Book, Settled}
-use Rattle.standing.specs.Requests.{told_without}
-use Rattle.standing.specs.Replies.{Reply}
-use Rattle.runs.specs.Reading.{Answer, reply_of, worked_in}
-use Rattle.runs.specs.Runs.{statements_in}
-use Rattle.audit.specs.declared.audits.Report.{Report}
-use Rattle.audit.specs.Cases.{Case, opening_in, again, ended, answered}
-use Rattle.audit.specs.Found.{Found, places_fit}
+use Rattle.settlement.specs.{declared.faults.BookFault.BookFault, declared.faults.BookFault.TheVariants.WrongSize, declared.faults.BookFault.TheVariants.OutsideBook, Faults.met_if, Faults.first_met}
+use Rattle.book.specs.{declared.months.MonthFigures.MonthFigures, declared.statements.Statement.Statement, Memory.Memory, Months.size_known, Opening.open_fault}
+use Rattle.law.specs.{Law.Book, Law.Settled, Requests.told_without, Replies.Reply}
+use Rattle.runs.specs.{Reading.Answer, Reading.reply_of, Reading.worked_in, Runs.statements_in}
+use Rattle.audit.specs.{declared.audits.Report.Report, Cases.Case, Cases.opening_in, Cases.again, Cases.ended, Cases.answered, Found.Found, Found.places_fit}
 
 -- the faults of an audit of so many calls, in the order of an opening's: agents or days, then a place for each answer and each statement, and the
 -- memory's size, then the weekday or an agent's figures

@@ -2,18 +2,10 @@
 use Rattle.std.specs.Prelude.{◌≡◌, ℕ, Bool, true, false, List, map, None, Option, ◌==◌}
 use Rattle.std.specs.Option.{option_map}
 use Rattle.forms.specs.Meaning.{Meaning}
-use Rattle.settlement.specs.declared.agents.Agent.{Agent}
-use Rattle.book.specs.declared.months.MonthFigures.{MonthFigures}
-use Rattle.settlement.specs.declared.states.State.TheVariants.{Open}
-use Rattle.book.specs.Memory.{Memory}
-use Rattle.book.specs.Opening.{open_fault, emptied}
-use Rattle.standing.specs.Requests.{Opening, Request, posting}
-use Rattle.standing.specs.Only.{only_standing}
-use Rattle.standing.specs.Standing.{Standing}
-use Rattle.standing.specs.Turns.{after}
-use Rattle.runs.specs.declared.calls.Call.{Call}
-use Rattle.runs.specs.Reading.{opening_of, request_of, Answer}
-use Rattle.runs.specs.Runs.{Kept, kept_of, answers_to, kept_after}
+use Rattle.settlement.specs.declared.{agents.Agent.Agent, states.State.TheVariants.Open}
+use Rattle.book.specs.{declared.months.MonthFigures.MonthFigures, Memory.Memory, Opening.open_fault, Opening.emptied}
+use Rattle.law.specs.{Requests.Opening, Requests.Request, Requests.posting, Only.only_standing, Standing.Standing, Turns.after}
+use Rattle.runs.specs.{declared.calls.Call.Call, Reading.opening_of, Reading.request_of, Reading.Answer, Runs.Kept, Runs.kept_of, Runs.answers_to, Runs.kept_after}
 
 -- what is audited: the form, the figures that each book is opened with, its agents, and what is asked of it
 pub record Case : Type 0 where

@@ -1,22 +1,14 @@
 -- What an audit compares: answers of the first two books, and statements of all three. Assumes nothing.
 use Rattle.std.specs.Prelude.{◌≡◌, ℕ, Bool, true, false, not, ◌&&◌, List, length, ℤ, Option, ◌==◌}
-use Rattle.std.specs.Int.{w64}
-use Rattle.std.specs.List.{filter, zip, range_with_len}
+use Rattle.std.specs.{Int.w64, List.filter, List.zip, List.range_with_len}
 use Rattle.std.proofs.Common.{of_z}
 use Rattle.forms.specs.declared.Contract.{Contract}
 use Rattle.tally.specs.declared.money.Money.{Money}
 use Rattle.settlement.specs.Faults.{number_of, place_of}
 use Rattle.book.specs.declared.statements.Statement.{Statement}
-use Rattle.standing.specs.Requests.{about_contracts, without_contracts}
-use Rattle.standing.specs.Parties.{is_stranger}
-use Rattle.standing.specs.Replies.{manner_of}
-use Rattle.standing.specs.Turns.{Manner, was_done, was_refused, was_skipped}
-use Rattle.runs.specs.declared.calls.Call.{Call}
-use Rattle.runs.specs.Reading.{request_of, Answer, reply_of}
-use Rattle.audit.specs.declared.audits.Report.{Report}
-use Rattle.audit.specs.declared.comparisons.Comparison.{Comparison}
-use Rattle.audit.specs.Cases.{Case, standing_in}
-use Rattle.audit.specs.Found.{Found}
+use Rattle.law.specs.{Requests.about_contracts, Requests.without_contracts, Parties.is_stranger, Replies.manner_of, Turns.Manner, Turns.was_done, Turns.was_refused, Turns.was_skipped}
+use Rattle.runs.specs.{declared.calls.Call.Call, Reading.request_of, Reading.Answer, Reading.reply_of}
+use Rattle.audit.specs.{declared.audits.Report.Report, declared.comparisons.Comparison.Comparison, Cases.Case, Cases.standing_in, Found.Found}
 
 -- two calls were answered alike: both done, both refused with the same number and place, or both skipped
 abbrev pub same_manner : Manner → Manner → Bool

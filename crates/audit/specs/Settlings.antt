@@ -1,11 +1,8 @@
 -- A book settled from its opening on, and what the first leaves for the third. Assumes nothing.
 use Rattle.std.specs.Prelude.{◌≡◌, List}
-use Rattle.book.specs.declared.months.MonthFigures.{MonthFigures}
-use Rattle.book.specs.declared.statements.Statement.{Statement}
+use Rattle.book.specs.declared.{months.MonthFigures.MonthFigures, statements.Statement.Statement}
 use Rattle.runs.specs.Runs.{Kept, statements_in, together}
-use Rattle.audit.specs.declared.again.Left.{Left}
-use Rattle.audit.specs.declared.settling.Settlement.{Settlement}
-use Rattle.audit.specs.Cases.{Case, standing_in, FirstAnswers}
+use Rattle.audit.specs.{declared.again.Left.Left, declared.settling.Settlement.Settlement, Cases.Case, Cases.standing_in, Cases.FirstAnswers}
 
 -- what a book that is kept so came to: every agent's statement, whether its month is open or closed, and all balances together
 pub record Came (f : MonthFigures) (kept : Kept) (statements : List Statement)

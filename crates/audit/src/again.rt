@@ -1,7 +1,7 @@
 //! Only what stands, asked of a book anew: its contracts, then its postings in the order of the hours, then the closing.
 ghost use Rattle.std.specs.Prelude.{◌≡◌, ◌≤◌, [], ◌∷◌, length};
 ghost use Rattle.calendar.specs.Limits.{most_days, hours_of};
-ghost use Rattle.standing.specs.Only.{entries_of, posting_at, postings_of, closing_of, only_standing};
+ghost use Rattle.law.specs.Only.{entries_of, posting_at, postings_of, closing_of, only_standing};
 ghost use Rattle.runs.specs.Lent.{memory_in, SameLoan};
 ghost use Rattle.runs.specs.Reading.{request_of};
 

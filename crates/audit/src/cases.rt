@@ -8,9 +8,9 @@ ghost use Rattle.settlement.specs.Hour.{residue_of};
 ghost use Rattle.settlement.specs.Packets.{posting_in};
 ghost use Rattle.settlement.specs.Posting.{posting_of};
 ghost use Rattle.settlement.specs.PostingFaults.{PostingFits};
-ghost use Rattle.standing.specs.Standing.{Standing};
-ghost use Rattle.standing.specs.Turns.{changed};
-ghost use Rattle.standing.specs.Worked.{residue_from, residue_after};
+ghost use Rattle.law.specs.Standing.{Standing};
+ghost use Rattle.law.specs.Turns.{changed};
+ghost use Rattle.law.specs.Worked.{residue_from, residue_after};
 ghost use Rattle.runs.specs.Reading.{request_in, request_of};
 ghost use Rattle.audit.specs.Cases.{posts_at, Posts};
 

@@ -1,6 +1,6 @@
 //! What the audit compares: answers of the first two books, and statements of all three.
 ghost use Rattle.std.specs.Prelude.{◌≡◌, ◌<◌, ◌≤◌};
-ghost use Rattle.standing.specs.Parties.{is_party, is_stranger};
+ghost use Rattle.law.specs.Parties.{is_party, is_stranger};
 ghost use Rattle.audit.specs.Compared.{same_answer, heard_in, alike_in, same_lines, same_statement, same_in, strangers_in, strangers_same, Compared};
 ghost use Rattle.audit.specs.Found.{found_in};
 

@@ -3,7 +3,7 @@ ghost use Rattle.std.specs.Prelude.{◌≡◌, map, length, IfOk};
 ghost use Rattle.std.specs.Result.{result_err};
 ghost use Rattle.profile.specs.Profile.{profile};
 ghost use Rattle.book.specs.Lent.{memory_with};
-ghost use Rattle.standing.specs.Law.{Settled};
+ghost use Rattle.law.specs.Law.{Settled};
 ghost use Rattle.runs.specs.Reading.{request_of};
 ghost use Rattle.audit.specs.Audits.{audit_fault, opening_in, first_book, second_book, third_book};
 

@@ -1,22 +1,13 @@
 use Rattle.std.proofs.Common.{◌≡◌, true, false, List, length, sym, refl, ap, ◌∙◌, subst, rules, arith, w64, to_z, of_z}
 use Rattle.std.proofs.lemmas.Int.{wraps}
 use Rattle.book.specs.Memory.{Memory}
-use Rattle.standing.proofs.Soundness.{sound_after}
-use Rattle.runs.specs.Lent.{memory_in}
-use Rattle.runs.specs.Reading.{Answer}
-use Rattle.runs.specs.Runs.{Kept, kept_in, all_done, statements_in, together}
+use Rattle.law.proofs.Soundness.{sound_after}
+use Rattle.runs.specs.{Lent.memory_in, Reading.Answer, Runs.Kept, Runs.kept_in, Runs.all_done, Runs.statements_in, Runs.together}
 use Rattle.runs.proofs.Books.{agents_long}
-use Rattle.audit.specs.declared.audits.Report.{Report}
-use Rattle.audit.specs.Audits.{AllRan, SettledIn}
-use Rattle.audit.specs.Cases.{Case, opening_in, again, ended, FirstAnswers}
-use Rattle.audit.specs.Compared.{Compared}
-use Rattle.audit.specs.Found.{Found, found_in}
-use Rattle.audit.specs.Reading.{case_in}
-use Rattle.audit.proofs.Agreed.{agrees}
-use Rattle.audit.proofs.Audited.{places_long, opens_after, ended_after, answered_after, states_after, left_places, left_state, law_holds}
+use Rattle.audit.specs.{declared.audits.Report.Report, Audits.AllRan, Audits.SettledIn, Cases.Case, Cases.opening_in, Cases.again, Cases.ended, Cases.FirstAnswers, Compared.Compared, Found.Found, Found.found_in, Reading.case_in}
+use Rattle.audit.proofs.{Agreed.agrees, Audited.places_long, Audited.opens_after, Audited.ended_after, Audited.answered_after, Audited.states_after, Audited.left_places, Audited.left_state, Audited.law_holds, audits.settle_books.Goals.After-settle_calls-first, audits.settle_books.Goals.After-settle_calls-second, audits.settle_books.Goals.After-hear_standing-month, audits.settle_books.Goals.After-conclude-third}
 use Rattle.audit.proofs.audits.settle_books.Goals as goal
 use Rattle.audit.proofs.audits.settle_books.Given as given
-use Rattle.audit.proofs.audits.settle_books.Goals.{After-settle_calls-first, After-settle_calls-second, After-hear_standing-month, After-conclude-third}
 
 -- the answers of the first book are its run's
 first_told : (g : given.Over) (c : After-settle_calls-first g) (answers : List Answer) → answers ≡ c.settle_calls-first.new.answers →

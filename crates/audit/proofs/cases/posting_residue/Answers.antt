@@ -1,7 +1,6 @@
 use Rattle.std.proofs.Common.{◌≡◌, ◌+◌, length, ◌∙◌, sym, arith}
 use Rattle.tally.proofs.Numbers.{sum_to_more}
-use Rattle.settlement.specs.Hour.{injected_amount, withdrawn_amount}
-use Rattle.settlement.specs.Posting.{line_at, posting_of}
+use Rattle.settlement.specs.{Hour.injected_amount, Hour.withdrawn_amount, Posting.line_at, Posting.posting_of}
 use Rattle.settlement.proofs.Differences.{difference}
 use Rattle.audit.proofs.cases.posting_residue.Goals as goal
 

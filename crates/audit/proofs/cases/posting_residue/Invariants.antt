@@ -1,8 +1,7 @@
 use Rattle.std.proofs.Common.{◌≡◌, ◌*◌, ◌≤◌}
 use Rattle.tally.specs.Sums.{sum_to}
 use Rattle.valuation.specs.Limits.{most_amount}
-use Rattle.settlement.specs.Hour.{injected_amount, withdrawn_amount}
-use Rattle.settlement.specs.Posting.{line_at, posting_of}
+use Rattle.settlement.specs.{Hour.injected_amount, Hour.withdrawn_amount, Posting.line_at, Posting.posting_of}
 use Rattle.audit.proofs.cases.posting_residue.Given as goal
 
 abbrev pub invariant-loop-line : goal.invariant-loop-line

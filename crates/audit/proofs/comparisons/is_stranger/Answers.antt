@@ -1,8 +1,7 @@
 use Rattle.std.proofs.Common.{not, rules}
 use borrow.Author.Tests.{tests}
-use Rattle.std.proofs.lemmas.Iterator.{YieldsList-from_slice}
-use Rattle.std.proofs.lemmas.Iterator.Search.{all_from_yields_List}
-use Rattle.standing.specs.Parties.{is_party}
+use Rattle.std.proofs.lemmas.Iterator.{YieldsList-from_slice, Search.all_from_yields_List}
+use Rattle.law.specs.Parties.{is_party}
 use Rattle.audit.proofs.comparisons.is_stranger.Goals as goal
 
 pub returns : goal.returns

@@ -1,12 +1,9 @@
 use Rattle.std.proofs.Common.{◌≡◌, List, length, map, take, sym, refl, ap, ◌∙◌}
 use Rattle.std.proofs.lemmas.List.{length-map}
 use Rattle.std.proofs.Math.Seq.{take-length}
-use Rattle.standing.specs.Requests.{Request}
-use Rattle.runs.specs.Lent.{memory_in}
-use Rattle.runs.specs.Reading.{request_of, figures_in}
-use Rattle.runs.specs.Runs.{kept_in, kept_after}
-use Rattle.audit.specs.Cases.{Case}
-use Rattle.audit.specs.Reading.{case_in}
+use Rattle.law.specs.Requests.{Request}
+use Rattle.runs.specs.{Lent.memory_in, Reading.request_of, Reading.figures_in, Runs.kept_in, Runs.kept_after}
+use Rattle.audit.specs.{Cases.Case, Reading.case_in}
 use Rattle.audit.proofs.Audited.{states_after}
 use Rattle.audit.proofs.settling.settle_calls.Goals as goal
 

@@ -1,5 +1,5 @@
 use Rattle.std.proofs.Common.{◌+◌, [], ◌∷◌, get_or, take, None, ap, ◌∙◌, rules}
-use Rattle.standing.specs.Only.{entries_of}
+use Rattle.law.specs.Only.{entries_of}
 use Rattle.runs.specs.Lent.{memory_in}
 use Rattle.audit.specs.Again.{running_of, heard_anew}
 use Rattle.audit.proofs.Anew.{heard_more, entries_more}

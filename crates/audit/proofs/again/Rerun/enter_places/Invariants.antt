@@ -1,5 +1,5 @@
 use Rattle.std.proofs.Common.{◌≡◌, take}
-use Rattle.standing.specs.Only.{entries_of}
+use Rattle.law.specs.Only.{entries_of}
 use Rattle.runs.specs.Lent.{memory_in, SameLoan}
 use Rattle.audit.specs.Again.{running_of, heard_anew}
 use Rattle.audit.proofs.again.Rerun.enter_places.Given as goal

@@ -1,8 +1,6 @@
 use Rattle.std.proofs.Common.{ap, ◌∙◌, rules}
 use Rattle.runs.specs.Lent.{memory_in}
-use Rattle.audit.specs.Again.{running_of, heard_anew}
-use Rattle.audit.specs.Cases.{standing_in}
-use Rattle.audit.specs.Reading.{case_in}
+use Rattle.audit.specs.{Again.running_of, Again.heard_anew, Cases.standing_in, Reading.case_in}
 use Rattle.audit.proofs.Stands.{posts_asked}
 use Rattle.audit.proofs.again.Rerun.post_hour.Goals as goal
 

@@ -1,9 +1,7 @@
 use Rattle.std.proofs.Common.{ap, ◌∙◌, rules}
-use Rattle.standing.specs.Only.{posting_at, postings_of}
+use Rattle.law.specs.Only.{posting_at, postings_of}
 use Rattle.runs.specs.Lent.{memory_in}
-use Rattle.audit.specs.Again.{running_of, heard_anew}
-use Rattle.audit.specs.Cases.{standing_in}
-use Rattle.audit.specs.Reading.{case_in}
+use Rattle.audit.specs.{Again.running_of, Again.heard_anew, Cases.standing_in, Reading.case_in}
 use Rattle.audit.proofs.Anew.{heard_more, postings_more}
 use Rattle.audit.proofs.again.Rerun.post_hours.Goals as goal
 

@@ -1,9 +1,7 @@
 use Rattle.std.proofs.Common.{◌≡◌}
-use Rattle.standing.specs.Only.{postings_of}
+use Rattle.law.specs.Only.{postings_of}
 use Rattle.runs.specs.Lent.{memory_in, SameLoan}
-use Rattle.audit.specs.Again.{running_of, heard_anew}
-use Rattle.audit.specs.Cases.{standing_in}
-use Rattle.audit.specs.Reading.{case_in}
+use Rattle.audit.specs.{Again.running_of, Again.heard_anew, Cases.standing_in, Reading.case_in}
 use Rattle.audit.proofs.again.Rerun.post_hours.Given as goal
 
 abbrev pub invariant-loop-hour : goal.invariant-loop-hour

@@ -1,11 +1,9 @@
 use Rattle.std.proofs.Common.{◌++◌, length, ap, ◌∙◌, arith}
 use Rattle.calendar.specs.Limits.{hours_of}
-use Rattle.standing.specs.Only.{entries_of, postings_of, closing_of}
-use Rattle.standing.proofs.Soundness.{sound_after}
+use Rattle.law.specs.Only.{entries_of, postings_of, closing_of}
+use Rattle.law.proofs.Soundness.{sound_after}
 use Rattle.runs.specs.Lent.{memory_in}
-use Rattle.audit.specs.Again.{running_of, heard_anew}
-use Rattle.audit.specs.Cases.{Case, opening_in, standing_in}
-use Rattle.audit.specs.Reading.{case_in}
+use Rattle.audit.specs.{Again.running_of, Again.heard_anew, Cases.Case, Cases.opening_in, Cases.standing_in, Reading.case_in}
 use Rattle.audit.proofs.Anew.{heard_more}
 use Rattle.audit.proofs.again.Rerun.repeat.Goals as goal
 

@@ -1,7 +1,7 @@
 use Rattle.std.proofs.Common.{sym, ap, ◌∙◌}
 use Rattle.std.specs.Option.{option_map, option_copied}
 use Rattle.settlement.specs.Packets.{posting_in}
-use Rattle.standing.specs.Requests.{posting}
+use Rattle.law.specs.Requests.{posting}
 use Rattle.runs.specs.Reading.{request_in, request_of}
 use Rattle.audit.specs.Reading.{case_in}
 use Rattle.audit.proofs.Stands.{call_fits, packet_fits}

@@ -1,9 +1,8 @@
 use Rattle.std.proofs.Common.{arith}
 use Rattle.std.proofs.lemmas.Int.{ints}
 use Rattle.tally.proofs.Numbers.{sum_to_ℤ_more}
-use Rattle.standing.specs.Worked.{residue_from}
-use Rattle.audit.specs.Cases.{standing_in}
-use Rattle.audit.specs.Reading.{case_in}
+use Rattle.law.specs.Worked.{residue_from}
+use Rattle.audit.specs.{Cases.standing_in, Reading.case_in}
 use Rattle.audit.proofs.cases.Case.residue.Goals as goal
 
 pub loop-hour-preserved : goal.loop-hour-preserved

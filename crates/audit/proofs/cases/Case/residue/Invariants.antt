@@ -1,9 +1,8 @@
 use Rattle.std.proofs.Common.{◌≡◌, ◌*◌, ◌≤◌, nat_abs}
 use Rattle.valuation.specs.Limits.{most_amount}
 use Rattle.forms.specs.Limits.{most_agents}
-use Rattle.standing.specs.Worked.{residue_between}
-use Rattle.audit.specs.Cases.{standing_in}
-use Rattle.audit.specs.Reading.{case_in}
+use Rattle.law.specs.Worked.{residue_between}
+use Rattle.audit.specs.{Cases.standing_in, Reading.case_in}
 use Rattle.audit.proofs.cases.Case.residue.Given as goal
 
 abbrev pub invariant-loop-hour : goal.invariant-loop-hour

@@ -1,7 +1,6 @@
 use Rattle.std.proofs.Common.{◌≡◌, map, rules}
 use borrow.Author.Tests.{tests}
-use Rattle.std.specs.Iterator.Adapters.{zip_first, zip_second}
-use Rattle.std.specs.Slice.Iter.{iter_rest}
+use Rattle.std.specs.{Iterator.Adapters.zip_first, Iterator.Adapters.zip_second, Slice.Iter.iter_rest}
 use Rattle.std.proofs.lemmas.Slice.Zip.{Zip-more, either_empty_from_Zip}
 use Rattle.runs.specs.Reading.{request_of}
 use Rattle.audit.specs.Reading.{case_in}

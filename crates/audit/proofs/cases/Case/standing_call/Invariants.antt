@@ -1,8 +1,5 @@
-use Rattle.std.specs.Iterator.Adapters.{zip_first, zip_second}
-use Rattle.std.specs.Option.{option_copied}
-use Rattle.std.specs.Slice.Iter.{iter_rest}
-use Rattle.audit.specs.Cases.{Case, opening_in, standing_in}
-use Rattle.audit.specs.Reading.{case_in}
+use Rattle.std.specs.{Iterator.Adapters.zip_first, Iterator.Adapters.zip_second, Option.option_copied, Slice.Iter.iter_rest}
+use Rattle.audit.specs.{Cases.Case, Cases.opening_in, Cases.standing_in, Reading.case_in}
 use Rattle.audit.proofs.Stands.{Leads}
 use Rattle.audit.proofs.cases.Case.standing_call.Given as goal
 
