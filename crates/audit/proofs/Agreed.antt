@@ -1,5 +1,5 @@
 -- What the counts of an audit come to where the law holds. Assumes nothing.
-use Rattle.std.proofs.Common.{◌≡◌, ℕ, zero, suc, ◌+◌, ◌<◌, Bool, true, false, cond, not, ◌&&◌, eqb, List, [], ◌∷◌, map, length, get_or, Option, sym, refl, ap, ◌∙◌, arith, ℤ, w64, of_z}
+use Rattle.std.proofs.Common.{◌≡◌, ℕ, zero, suc, ◌+◌, ◌<◌, Bool, true, false, cond, not, ◌&&◌, eqb, List, [], ◌∷◌, map, length, get_or, Option, sym, refl, ap, ◌∙◌, arith}
 use Rattle.std.specs.List.{filter, zip, range_with_len}
 use Rattle.std.proofs.lemmas.{Bool.eq-eqb, Bool.and_from, List.FromFn.get_or-map-range_with_len}
 use Rattle.std.proofs.Math.ListN.{get_or-map}
@@ -65,12 +65,9 @@ alike_heard (c ∷ calls) (a ∷ answers) (b ∷ without) long also = by (about_
 -- statements with the same numbers are the same
 same_worked : (x y : Statement) → worked_in x ≡ worked_in y → same_statement x y ≡ true
 same_worked x y same =
-    let number : (f : Worked → ℤ) → same_number (f (worked_in x)) (f (worked_in y)) ≡ true = λ f. eq-eqb _ _ (ap (λ w. of_z w64 (f w)) same) in
-    let counted : (f : Worked → ℕ) → eqb (f (worked_in x)) (f (worked_in y)) ≡ true = λ f. eq-eqb _ _ (ap f same) in
-    let lines : same_lines x.lines y.lines ≡ true =
-    and_from _ _ (number (λ w. w.lines.market)) (and_from _ _ (number (λ w. w.lines.contract)) (and_from _ _ (number (λ w. w.lines.overcost)) (number (λ w. w.lines.power)))) in
-    and_from _ _ lines (and_from _ _ (number (λ w. w.balance)) (and_from _ _ (counted (λ w. w.injected)) (and_from _ _ (counted (λ w. w.withdrawn))
-    (and_from _ _ (counted (λ w. w.peak.kwh)) (counted (λ w. w.peak.hour))))))
+    let counted : (n : ℕ) → eqb n n ≡ true = λ n. eq-eqb n n refl in
+    let worked : Worked → Worked → Bool = λ v w. same_lines v.lines w.lines && (same_number v.balance w.balance && (eqb v.injected w.injected && (eqb v.withdrawn w.withdrawn && (eqb v.peak.kwh w.peak.kwh && eqb v.peak.hour w.peak.hour)))) in
+    ap (worked (worked_in x)) (sym same) ∙ simp counted
 
 -- where all agents have the same numbers in two books, as many have the same statement
 pub all_same : (one other : List Statement) → map worked_in other ≡ map worked_in one → same_in one other ≡ length one

@@ -8,7 +8,7 @@ use Rattle.book.specs.{declared.months.MonthFigures.MonthFigures, declared.state
 use Rattle.law.specs.{Law.Book, Law.Ran, Replies.Reply, Replies.is_done, Requests.Request, Requests.told_without, Worked.residue_after}
 use Rattle.law.proofs.{Lawful.settled, Sound.Opened}
 use Rattle.runs.specs.{Reading.opening_of, Reading.Answer, Reading.reply_of, Runs.Kept, Runs.kept_of, Runs.answers_to, Runs.kept_after, Runs.all_done, Runs.statements_in, Runs.statements_fault, Runs.together}
-use Rattle.runs.proofs.Books.{heard_by, told_by, is_opened, kept_holds, kept_opens, kept_emptied, kept_states, kept_ran}
+use Rattle.runs.proofs.{Run.heard_by, Run.told_by, Books.is_opened, Books.kept_holds, Books.kept_opens, Books.kept_emptied, Books.kept_states, Books.kept_ran}
 use Rattle.audit.specs.{declared.audits.Report.Report, Audits.book_of, Audits.AllRan, Audits.SettledIn, Cases.Case, Cases.opening_in, Cases.standing_in, Cases.again, Cases.begun, Cases.ended, Cases.answered, Found.Found, Found.places_fit}
 
 -- all that was answered was done

@@ -1,9 +1,9 @@
 -- What an audit compares: answers of the first two books, and statements of all three. Assumes nothing.
 use Rattle.std.specs.Prelude.{◌≡◌, ℕ, Bool, true, false, not, ◌&&◌, List, length, ℤ, Option, ◌==◌}
-use Rattle.std.specs.{Int.w64, List.filter, List.zip, List.range_with_len}
+use Rattle.std.specs.{Int.w64, List.filter, List.list_all, List.zip, List.range_with_len}
 use Rattle.std.proofs.Common.{of_z}
 use Rattle.forms.specs.declared.Contract.{Contract}
-use Rattle.tally.specs.declared.money.Money.{Money}
+use Rattle.tally.specs.{declared.money.TheConstants.MoneyLine.ALL, Lines.Lines, Lines.line_on, Money.lines_of}
 use Rattle.settlement.specs.Faults.{number_of, place_of}
 use Rattle.book.specs.declared.statements.Statement.{Statement}
 use Rattle.law.specs.{Requests.about_contracts, Requests.without_contracts, Parties.is_stranger, Replies.manner_of, Turns.Manner, Turns.was_done, Turns.was_refused, Turns.was_skipped}
@@ -39,15 +39,13 @@ alike_in calls answers without =
 abbrev pub same_number : ℤ → ℤ → Bool
 same_number x y = of_z w64 x == of_z w64 y
 
--- two statements are the same, number by number
-abbrev pub same_lines : Money → Money → Bool
-same_lines x y =
-    same_number x.market y.market && (same_number x.contract y.contract
-    && (same_number x.overcost y.overcost && same_number x.power y.power))
+-- two statements are the same, number by number, and so line by line
+abbrev pub same_lines : Lines → Lines → Bool
+same_lines x y = list_all (λ line. same_number (line_on line x) (line_on line y)) ALL
 
 abbrev pub same_statement : Statement → Statement → Bool
 same_statement x y =
-    same_lines x.lines y.lines
+    same_lines (lines_of x.lines) (lines_of y.lines)
     && (same_number x.balance y.balance && (x.energy.injected == y.energy.injected
     && (x.energy.withdrawn == y.energy.withdrawn
     && (x.peak.kwh == y.peak.kwh && x.peak.hour == y.peak.hour))))

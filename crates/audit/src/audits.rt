@@ -97,7 +97,7 @@ pub fn audit<F: ContractForm>(
     ensures places { SamePlaces findings.old findings.new }
     ensures fault { let found = found_in findings.old in
         result_err result ≡ audit_fault figures (length calls.now) (memory_in lent.old) found }
-    ensures unread { OnErr result (memory_in lent.new ≡ memory_in lent.old) }
+    ensures untouched { OnErr result (memory_in lent.new ≡ memory_in lent.old) }
     ensures unwritten { OnErr result (found_in findings.new ≡ found_in findings.old) }
     // only what stands in the first book at the end is left in memory
     ensures memory { let agents = lent.old.agents.now in

@@ -48,13 +48,7 @@ fn posting_left<'c>(call: &'c Call, hour: u32, before: Option<&'c Call>) -> Opti
         Call::Post { hour: at, .. } if *at == hour => Some(call),
         Call::Packet(bytes) if does_say(bytes, hour) => Some(call),
         Call::Withdraw(at) if *at == hour => None,
-        Call::Post { .. }
-        | Call::Packet(_)
-        | Call::Withdraw(_)
-        | Call::Enter { .. }
-        | Call::Cancel(_)
-        | Call::Close
-        | Call::Statement(_) => before,
+        _ => before,
     }
 }
 
@@ -119,7 +113,7 @@ impl<F: ContractForm> Case<'_, F> {
                 lines,
             }),
             Some(Call::Packet(bytes)) => packet_residue(bytes),
-            Some(_) | None => 0,
+            _ => 0,
         }
     }
 

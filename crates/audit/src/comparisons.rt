@@ -1,5 +1,6 @@
 //! What the audit compares: answers of the first two books, and statements of all three.
 ghost use Rattle.std.specs.Prelude.{◌≡◌, ◌<◌, ◌≤◌};
+ghost use Rattle.tally.specs.Money.{lines_of};
 ghost use Rattle.law.specs.Parties.{is_party, is_stranger};
 ghost use Rattle.audit.specs.Compared.{same_answer, heard_in, alike_in, same_lines, same_statement, same_in, strangers_in, strangers_same, Compared};
 ghost use Rattle.audit.specs.Found.{found_in};
@@ -8,7 +9,7 @@ use crate::findings::Findings;
 use book::Statement;
 use forms::Contract;
 use runs::{Answer, Call, Told, is_done};
-use tally::Money;
+use tally::{Money, MoneyLine};
 
 /// How the three books of an audit compare.
 #[derive(Clone, Copy, PartialEq, Eq, Debug)]
@@ -39,12 +40,11 @@ pub fn is_alike(one: &Answer, other: &Answer) -> bool
 
 /// Whether two statements have the same lines.
 fn are_lines_same(one: &Money, other: &Money) -> bool
-    ensures { result ≡ same_lines one.now other.now }
+    ensures { result ≡ same_lines (lines_of one.now) (lines_of other.now) }
 {
-    one.market == other.market
-        && one.contract == other.contract
-        && one.overcost == other.overcost
-        && one.power == other.power
+    MoneyLine::ALL
+        .iter()
+        .all(|line| one.on(*line) == other.on(*line))
 }
 
 /// Whether two statements are the same.

@@ -100,54 +100,52 @@ fn postings_that_are_refused(rt: HostRuntime) -> Result<(), Fail> {
     Ok(())
 }
 
-#[test]
-fn corrections_and_withdrawals(rt: HostRuntime) -> Result<(), Fail> {
-    let refused = Step::Post(3, 2_000_001, &TRADE);
-    let cases = [
-        (Step::Withdraw(3), Refused(9, 3), Refused(9, 3)),
-        (Step::Withdraw(24), Refused(4, 24), Refused(4, 24)),
-        (Step::Post(3, 60_000, &TRADE), Done, Done),
-        (refused, Refused(5, 0), Refused(5, 0)),
-        (Step::Statement(2), Stated(-367_200), Stated(-367_200)),
-        (Step::Post(3, 30_000, &TRADE), Done, Done),
-        (Step::Statement(2), Stated(-183_600), Stated(-183_600)),
-        (Step::Withdraw(3), Done, Done),
-        (Step::Statement(2), Stated(0), Stated(0)),
-        (Step::Withdraw(3), Refused(9, 3), Refused(9, 3)),
-    ];
-    try_cases(&rt, rt.alloc(), &cases)
-}
+/// An hour that is posted, corrected and withdrawn, with refusals in between.
+const CORRECTIONS: [Case<'static>; 10] = [
+    (Step::Withdraw(3), Refused(9, 3), Refused(9, 3)),
+    (Step::Withdraw(24), Refused(4, 24), Refused(4, 24)),
+    (Step::Post(3, 60_000, &TRADE), Done, Done),
+    (
+        Step::Post(3, 2_000_001, &TRADE),
+        Refused(5, 0),
+        Refused(5, 0),
+    ),
+    (Step::Statement(2), Stated(-367_200), Stated(-367_200)),
+    (Step::Post(3, 30_000, &TRADE), Done, Done),
+    (Step::Statement(2), Stated(-183_600), Stated(-183_600)),
+    (Step::Withdraw(3), Done, Done),
+    (Step::Statement(2), Stated(0), Stated(0)),
+    (Step::Withdraw(3), Refused(9, 3), Refused(9, 3)),
+];
 
-#[test]
-fn contracts_under_their_numbers(rt: HostRuntime) -> Result<(), Fail> {
-    let cases = [
-        (Step::Cancel(1), Refused(12, 0), Skipped),
-        (Step::Enter(0, BLOCK), Refused(12, 0), Skipped),
-        (Step::Enter(65, BLOCK), Refused(12, 0), Skipped),
-        (Step::Cancel(0), Refused(12, 0), Skipped),
-        (Step::Cancel(65), Refused(12, 0), Skipped),
-        (Step::Enter(64, BLOCK), Done, Skipped),
-        (Step::Enter(64, SHARE), Refused(12, 0), Skipped),
-        (Step::Enter(1, SHARE), Done, Skipped),
-        (Step::Post(8, 60_000, &TRADE), Done, Done),
-        (Step::Enter(2, RESOLD), Refused(14, 8), Skipped),
-        (Step::Cancel(64), Refused(14, 8), Skipped),
-        (Step::Post(6, 60_000, &TRADE), Done, Done),
-        (Step::Cancel(64), Refused(14, 6), Skipped),
-        (Step::Statement(1), Stated(920_000), Stated(1_140_000)),
-        (Step::Withdraw(6), Done, Done),
-        (Step::Withdraw(8), Done, Done),
-        (Step::Cancel(64), Done, Skipped),
-        (Step::Cancel(64), Refused(12, 0), Skipped),
-        (Step::Enter(64, RESOLD), Done, Skipped),
-        (Step::Post(8, 60_000, &TRADE), Done, Done),
-        (Step::Statement(3), Stated(-212_000), Stated(-222_000)),
-    ];
-    try_cases(&rt, rt.alloc(), &cases)
-}
+/// Contracts entered and cancelled under their numbers.
+const NUMBERS: [Case<'static>; 21] = [
+    (Step::Cancel(1), Refused(12, 0), Skipped),
+    (Step::Enter(0, BLOCK), Refused(12, 0), Skipped),
+    (Step::Enter(65, BLOCK), Refused(12, 0), Skipped),
+    (Step::Cancel(0), Refused(12, 0), Skipped),
+    (Step::Cancel(65), Refused(12, 0), Skipped),
+    (Step::Enter(64, BLOCK), Done, Skipped),
+    (Step::Enter(64, SHARE), Refused(12, 0), Skipped),
+    (Step::Enter(1, SHARE), Done, Skipped),
+    (Step::Post(8, 60_000, &TRADE), Done, Done),
+    (Step::Enter(2, RESOLD), Refused(14, 8), Skipped),
+    (Step::Cancel(64), Refused(14, 8), Skipped),
+    (Step::Post(6, 60_000, &TRADE), Done, Done),
+    (Step::Cancel(64), Refused(14, 6), Skipped),
+    (Step::Statement(1), Stated(920_000), Stated(1_140_000)),
+    (Step::Withdraw(6), Done, Done),
+    (Step::Withdraw(8), Done, Done),
+    (Step::Cancel(64), Done, Skipped),
+    (Step::Cancel(64), Refused(12, 0), Skipped),
+    (Step::Enter(64, RESOLD), Done, Skipped),
+    (Step::Post(8, 60_000, &TRADE), Done, Done),
+    (Step::Statement(3), Stated(-212_000), Stated(-222_000)),
+];
 
 /// Terms that the product does not take, or that the pool may not hold.
-const REFUSED_TERMS: [Contract; 11] = [
+const REFUSED_TERMS: [Contract; 12] = [
+    Contract { buyer: 1, ..BLOCK },
     Contract { seller: 0, ..BLOCK },
     Contract { buyer: 5, ..BLOCK },
     Contract { buyer: 4, ..BLOCK },
@@ -183,45 +181,48 @@ const TAKEN_TERMS: [Contract; 4] = [
     },
 ];
 
+/// Enters a contract under number 1, which only the first book hears of.
+fn try_terms(rt: &impl Abort, heap: Global, terms: Contract, said: Said) -> Result<(), Fail> {
+    try_cases(rt, heap, &[(Step::Enter(1, terms), said, Skipped)])
+}
+
 #[test]
-fn terms_that_may_not_stand(rt: HostRuntime) -> Result<(), Fail> {
+fn terms_that_may_stand_or_not(rt: HostRuntime) -> Result<(), Fail> {
     for terms in REFUSED_TERMS {
-        let case = (Step::Enter(1, terms), Refused(13, 0), Skipped);
-        try_cases(&rt, rt.alloc(), &[case])?;
+        try_terms(&rt, rt.alloc(), terms, Refused(13, 0))?;
     }
-    Ok(())
-}
-
-#[test]
-fn terms_that_may_stand(rt: HostRuntime) -> Result<(), Fail> {
     for terms in TAKEN_TERMS {
-        let case = (Step::Enter(1, terms), Done, Skipped);
-        try_cases(&rt, rt.alloc(), &[case])?;
+        try_terms(&rt, rt.alloc(), terms, Done)?;
     }
     Ok(())
 }
 
+/// Closings that are refused, one that is done, and calls after it.
+const CLOSINGS: [Case<'static>; 18] = [
+    (Step::Close, Refused(10, 0), Refused(10, 0)),
+    (Step::Enter(1, BLOCK), Done, Skipped),
+    (Step::PostDay(60_000, &QUIET), Done, Done),
+    (Step::Close, Refused(11, 0), Refused(11, 0)),
+    (Step::Withdraw(7), Done, Done),
+    (Step::Close, Refused(10, 7), Refused(10, 7)),
+    (Step::Post(7, 60_000, &TRADE), Done, Done),
+    (Step::Statement(1), Stated(530_000), Stated(570_000)),
+    (Step::Close, Done, Done),
+    (Step::Post(7, 60_000, &TRADE), Skipped, Skipped),
+    (Step::Post(24, 60_000, &TRADE), Skipped, Skipped),
+    (Step::Withdraw(7), Skipped, Skipped),
+    (Step::Enter(2, SHARE), Skipped, Skipped),
+    (Step::Cancel(1), Skipped, Skipped),
+    (Step::Close, Skipped, Skipped),
+    (Step::Statement(1), Stated(644_000), Stated(684_000)),
+    (Step::Statement(0), Refused(3, 0), Refused(3, 0)),
+    (Step::Statement(5), Refused(3, 0), Refused(3, 0)),
+];
+
 #[test]
-fn closings_and_closed_months(rt: HostRuntime) -> Result<(), Fail> {
-    let cases = [
-        (Step::Close, Refused(10, 0), Refused(10, 0)),
-        (Step::Enter(1, BLOCK), Done, Skipped),
-        (Step::PostDay(60_000, &QUIET), Done, Done),
-        (Step::Close, Refused(11, 0), Refused(11, 0)),
-        (Step::Withdraw(7), Done, Done),
-        (Step::Close, Refused(10, 7), Refused(10, 7)),
-        (Step::Post(7, 60_000, &TRADE), Done, Done),
-        (Step::Statement(1), Stated(530_000), Stated(570_000)),
-        (Step::Close, Done, Done),
-        (Step::Post(7, 60_000, &TRADE), Skipped, Skipped),
-        (Step::Post(24, 60_000, &TRADE), Skipped, Skipped),
-        (Step::Withdraw(7), Skipped, Skipped),
-        (Step::Enter(2, SHARE), Skipped, Skipped),
-        (Step::Cancel(1), Skipped, Skipped),
-        (Step::Close, Skipped, Skipped),
-        (Step::Statement(1), Stated(644_000), Stated(684_000)),
-        (Step::Statement(0), Refused(3, 0), Refused(3, 0)),
-        (Step::Statement(5), Refused(3, 0), Refused(3, 0)),
-    ];
-    try_cases(&rt, rt.alloc(), &cases)
+fn lists_of_calls(rt: HostRuntime) -> Result<(), Fail> {
+    let heap = rt.alloc();
+    try_cases(&rt, heap, &CORRECTIONS)?;
+    try_cases(&rt, heap, &NUMBERS)?;
+    try_cases(&rt, heap, &CLOSINGS)
 }

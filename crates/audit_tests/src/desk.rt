@@ -1,13 +1,13 @@
 //! Memory for a book of one day and places for what an audit of it finds, and the calls that tables of cases have.
-use audit::{Answer, Call, Findings, Posting, Report, Told, audit};
-use book::{Account, Agent, BookFault, Entry, Ledger, Line, MonthFigures, Statement};
+use audit::{Answer, Call, Findings, Lent, Report, Told, audit};
+use book::{Agent, BookFault, Holding, Ledger, Line, MonthFigures, Statement};
+use calendar::Calendar;
 use forms::{Contract, Delivery, Product};
 use packets::{PacketLine, write_hour};
 use std::alloc::{AllocError, Global};
 use tally::{Pair, Tally};
 
-/// Calls, as a table of cases has them.
-// Kept beside `Call`: cases are copied, and a `Call`'s `Vec` of lines or of bytes can't be.
+/// Calls, as a table of cases has them, which are copied.
 #[derive(Clone, Copy)]
 pub(crate) enum Step<'a> {
     /// Post an hour.
@@ -27,15 +27,14 @@ pub(crate) enum Step<'a> {
 
 /// A posting, as a call.
 fn posting(heap: Global, hour: u32, price: u32, lines: &[Line]) -> Result<Call, AllocError> {
-    Ok(Call::Post(Posting {
+    Ok(Call::Post {
         hour,
         price,
         lines: Vec::from_slice(heap, lines)?,
-    }))
+    })
 }
 
 /// A line as a packet carries it.
-// Kept beside the one of `book_tests`: no crate under both is for tests alone.
 fn packet_line(line: &Line) -> PacketLine {
     let Line {
         class,
@@ -144,10 +143,10 @@ pub(crate) type Outcome = Result<Report, u32>;
 #[derive(Drop)]
 pub(crate) struct Desk {
     pub(crate) agents: Vec<Agent>,
-    pub(crate) accounts: Vec<Account>,
+    pub(crate) accounts: Vec<Holding>,
     pub(crate) contracts: Vec<Option<Contract>>,
     pub(crate) marks: Vec<u8>,
-    pub(crate) entries: Vec<Entry>,
+    pub(crate) entries: Vec<Holding>,
     pub(crate) answers: Vec<Answer>,
     pub(crate) answers_without: Vec<Answer>,
     pub(crate) statements: Vec<Statement>,
@@ -158,9 +157,7 @@ pub(crate) struct Desk {
 /// What a desk lends to an audit.
 #[derive(Drop)]
 pub(crate) struct Loan<'d> {
-    pub(crate) agents: &'d [Agent],
-    pub(crate) contracts: &'d mut [Option<Contract>],
-    pub(crate) ledger: Ledger<'d>,
+    pub(crate) lent: Lent<'d>,
     pub(crate) findings: Findings<'d>,
 }
 
@@ -191,8 +188,8 @@ pub(crate) fn stale_statement() -> Statement {
 }
 
 /// What is in accounts and entries before an opening.
-pub(crate) fn stale_entry() -> Entry {
-    let mut entry: Entry = Pair::neutral();
+pub(crate) fn stale_entry() -> Holding {
+    let mut entry: Holding = Pair::neutral();
     entry.first.market = 9;
     entry
 }
@@ -218,12 +215,14 @@ impl Desk {
     /// All of it, lent to an audit.
     pub(crate) fn lend(&mut self) -> Loan<'_> {
         Loan {
-            agents: &self.agents,
-            contracts: &mut self.contracts,
-            ledger: Ledger {
-                accounts: &mut self.accounts,
-                marks: &mut self.marks,
-                entries: &mut self.entries,
+            lent: Lent {
+                agents: &self.agents,
+                contracts: &mut self.contracts,
+                ledger: Ledger {
+                    accounts: &mut self.accounts,
+                    marks: &mut self.marks,
+                    entries: &mut self.entries,
+                },
             },
             findings: Findings {
                 answers: &mut self.answers,
@@ -238,20 +237,10 @@ impl Desk {
     /// Audits calls on a book of the product's contracts.
     pub(crate) fn audit(&mut self, figures: MonthFigures, calls: &[Call]) -> Outcome {
         let Loan {
-            agents,
-            contracts,
-            mut ledger,
+            mut lent,
             mut findings,
         } = self.lend();
-        let outcome = audit(
-            figures,
-            &Product,
-            calls,
-            agents,
-            contracts,
-            &mut ledger,
-            &mut findings,
-        );
+        let outcome = audit(figures, &Product, calls, &mut lent, &mut findings);
         outcome.map_err(|fault| fault.number())
     }
 }
@@ -268,6 +257,6 @@ pub(crate) fn monday(agents: &[Agent]) -> MonthFigures {
     MonthFigures {
         agents: agents.len().min(65) as u32,
         days: 1,
-        weekday: 0,
+        calendar: Calendar { weekday: 0 },
     }
 }

@@ -31,41 +31,83 @@ fn try_list(
     Ok(())
 }
 
-#[test]
-fn lines_correct_a_packet(rt: HostRuntime) -> Result<(), Fail> {
-    let cases = [
-        (Step::Packet(8, 60_000, &TRADE), Done, Done),
-        (Step::Statement(2), Stated(-367_200), Stated(-367_200)),
-        (Step::Post(8, 30_000, &TRADE), Done, Done),
-        (Step::Statement(2), Stated(-183_600), Stated(-183_600)),
-    ];
-    try_list(&rt, rt.alloc(), &cases, [9_600, 4, 4])
-}
+/// An hour that is posted by packet, and corrected by lines.
+const PACKET_THEN_LINES: [Case<'static>; 4] = [
+    (Step::Packet(8, 60_000, &TRADE), Done, Done),
+    (Step::Statement(2), Stated(-367_200), Stated(-367_200)),
+    (Step::Post(8, 30_000, &TRADE), Done, Done),
+    (Step::Statement(2), Stated(-183_600), Stated(-183_600)),
+];
 
-#[test]
-fn a_packet_corrects_lines(rt: HostRuntime) -> Result<(), Fail> {
-    let cases = [
-        (Step::Post(8, 30_000, &TRADE), Done, Done),
-        (Step::Statement(2), Stated(-183_600), Stated(-183_600)),
-        (Step::Bytes(&HOUR), Done, Done),
-        (Step::Statement(2), Stated(-367_200), Stated(-367_200)),
-    ];
-    try_list(&rt, rt.alloc(), &cases, [19_200, 4, 4])
-}
+/// The other way round.
+const LINES_THEN_PACKET: [Case<'static>; 4] = [
+    (Step::Post(8, 30_000, &TRADE), Done, Done),
+    (Step::Statement(2), Stated(-183_600), Stated(-183_600)),
+    (Step::Bytes(&HOUR), Done, Done),
+    (Step::Statement(2), Stated(-367_200), Stated(-367_200)),
+];
 
+/// Packets and lines of other hours.
+const OTHER_HOURS: [Case<'static>; 8] = [
+    (Step::Bytes(&HOUR), Done, Done),
+    (Step::Post(9, 30_000, &TRADE), Done, Done),
+    (Step::Packet(0, 60_000, &TRADE), Done, Done),
+    (Step::Packet(8, 30_000, &TRADE), Done, Done),
+    (Step::Packet(23, 60_000, &TRADE), Done, Done),
+    (Step::Withdraw(23), Done, Done),
+    (Step::Withdraw(23), Refused(9, 23), Refused(9, 23)),
+    (Step::Statement(2), Stated(-734_400), Stated(-734_400)),
+];
+
+/// Packets whose figures are refused.
+const REFUSED_FIGURES: [Case<'static>; 6] = [
+    (Step::Bytes(&HOUR), Done, Done),
+    (
+        Step::Packet(24, 2_000_001, &TRADE),
+        Refused(4, 24),
+        Refused(4, 24),
+    ),
+    (
+        Step::Packet(8, 2_000_001, &TRADE),
+        Refused(5, 0),
+        Refused(5, 0),
+    ),
+    (
+        Step::Packet(8, 30_000, &[IDLE; 3]),
+        Refused(5, 0),
+        Refused(5, 0),
+    ),
+    (
+        Step::Packet(8, 30_000, &[IDLE; 64]),
+        Refused(5, 0),
+        Refused(5, 0),
+    ),
+    (Step::Statement(2), Stated(-367_200), Stated(-367_200)),
+];
+
+/// Packets and lines of an hour that a contract covers.
+const UNDER_A_CONTRACT: [Case<'static>; 10] = [
+    (Step::Enter(1, BLOCK), Done, Skipped),
+    (Step::Bytes(&HOUR), Done, Done),
+    (Step::Statement(1), Stated(560_000), Stated(570_000)),
+    (Step::Statement(2), Stated(-357_200), Stated(-367_200)),
+    (Step::Cancel(1), Refused(14, 8), Skipped),
+    (Step::Post(8, 30_000, &TRADE), Done, Done),
+    (Step::Statement(1), Stated(305_000), Stated(285_000)),
+    (Step::Packet(8, 60_000, &TRADE), Done, Done),
+    (Step::Enter(2, SHARE), Refused(14, 8), Skipped),
+    (Step::Statement(1), Stated(560_000), Stated(570_000)),
+];
+
+// Each list with the residue, the calls that both books heard, and the agents that are strangers to all contracts.
 #[test]
-fn packets_and_lines_of_other_hours(rt: HostRuntime) -> Result<(), Fail> {
-    let cases = [
-        (Step::Bytes(&HOUR), Done, Done),
-        (Step::Post(9, 30_000, &TRADE), Done, Done),
-        (Step::Packet(0, 60_000, &TRADE), Done, Done),
-        (Step::Packet(8, 30_000, &TRADE), Done, Done),
-        (Step::Packet(23, 60_000, &TRADE), Done, Done),
-        (Step::Withdraw(23), Done, Done),
-        (Step::Withdraw(23), Refused(9, 23), Refused(9, 23)),
-        (Step::Statement(2), Stated(-734_400), Stated(-734_400)),
-    ];
-    try_list(&rt, rt.alloc(), &cases, [38_400, 8, 4])
+fn lists_with_packets(rt: HostRuntime) -> Result<(), Fail> {
+    let heap = rt.alloc();
+    try_list(&rt, heap, &PACKET_THEN_LINES, [9_600, 4, 4])?;
+    try_list(&rt, heap, &LINES_THEN_PACKET, [19_200, 4, 4])?;
+    try_list(&rt, heap, &OTHER_HOURS, [38_400, 8, 4])?;
+    try_list(&rt, heap, &REFUSED_FIGURES, [19_200, 6, 4])?;
+    try_list(&rt, heap, &UNDER_A_CONTRACT, [19_200, 7, 2])
 }
 
 /// A packet that stands, and after it bytes that are none, whose fault starts at this place.
@@ -102,38 +144,6 @@ fn bytes_that_are_no_packet(rt: HostRuntime) -> Result<(), Fail> {
         try_damaged(&rt, rt.alloc(), bytes, place)?;
     }
     Ok(())
-}
-
-#[test]
-fn packets_whose_figures_are_refused(rt: HostRuntime) -> Result<(), Fail> {
-    let hour = Refused(4, 24);
-    let count = Refused(5, 0);
-    let cases = [
-        (Step::Bytes(&HOUR), Done, Done),
-        (Step::Packet(24, 2_000_001, &TRADE), hour, hour),
-        (Step::Packet(8, 2_000_001, &TRADE), count, count),
-        (Step::Packet(8, 30_000, &[IDLE; 3]), count, count),
-        (Step::Packet(8, 30_000, &[IDLE; 64]), count, count),
-        (Step::Statement(2), Stated(-367_200), Stated(-367_200)),
-    ];
-    try_list(&rt, rt.alloc(), &cases, [19_200, 6, 4])
-}
-
-#[test]
-fn a_packet_under_a_contract(rt: HostRuntime) -> Result<(), Fail> {
-    let cases = [
-        (Step::Enter(1, BLOCK), Done, Skipped),
-        (Step::Bytes(&HOUR), Done, Done),
-        (Step::Statement(1), Stated(560_000), Stated(570_000)),
-        (Step::Statement(2), Stated(-357_200), Stated(-367_200)),
-        (Step::Cancel(1), Refused(14, 8), Skipped),
-        (Step::Post(8, 30_000, &TRADE), Done, Done),
-        (Step::Statement(1), Stated(305_000), Stated(285_000)),
-        (Step::Packet(8, 60_000, &TRADE), Done, Done),
-        (Step::Enter(2, SHARE), Refused(14, 8), Skipped),
-        (Step::Statement(1), Stated(560_000), Stated(570_000)),
-    ];
-    try_list(&rt, rt.alloc(), &cases, [19_200, 7, 2])
 }
 
 // The block covers four hours of the day, each at 10,000 points.

@@ -31,19 +31,10 @@ const SMALL_PROFILE: Contract = Contract {
 /// An audit of calls on a book of the pair, in which contracts are daily profiles.
 fn audited(desk: &mut Desk, calls: &[Call]) -> Outcome {
     let Loan {
-        agents,
-        contracts,
-        mut ledger,
+        mut lent,
         mut findings,
     } = desk.lend();
-    let outcome = audit_profiles(
-        monday(&PAIR),
-        calls,
-        agents,
-        contracts,
-        &mut ledger,
-        &mut findings,
-    );
+    let outcome = audit_profiles(monday(&PAIR), calls, &mut lent, &mut findings);
     outcome.map_err(|fault| fault.number())
 }
 

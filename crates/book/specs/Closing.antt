@@ -1,10 +1,10 @@
 -- Closing a month. Assumes nothing.
-use Rattle.std.specs.Prelude.{ℕ, [], ◌∷◌, List, map, length, Option}
-use Rattle.std.specs.{List.range_with_len, Option.option_map}
+use Rattle.std.specs.Prelude.{ℕ, [], ◌∷◌, List, Option}
+use Rattle.std.specs.Option.{option_map}
 use Rattle.tally.specs.Failing.{first_failing}
 use Rattle.calendar.specs.Limits.{hours_of}
 use Rattle.forms.specs.Meaning.{Meaning}
-use Rattle.settlement.specs.{declared.faults.BookFault.BookFault, declared.faults.BookFault.TheVariants.MissingHour, declared.faults.BookFault.TheVariants.NoPowerCarrier, Faults.met_if, Faults.first_met, Holdings.withdrawn_on, Power.power_uncarried, Power.charged_at}
+use Rattle.settlement.specs.{declared.faults.BookFault.BookFault, declared.faults.BookFault.TheVariants.MissingHour, declared.faults.BookFault.TheVariants.NoPowerCarrier, Faults.met_if, Faults.first_met, Holdings.withdrawn_on, Power.power_uncarried, Power.accounts_charged}
 use Rattle.book.specs.{declared.months.MonthFigures.MonthFigures, Memory.Memory, Memory.is_posted, Memory.memory_fault, Outcomes.Outcome, Outcomes.outcome}
 
 -- 10: the first hour of a month of so many at which nothing stands
@@ -20,9 +20,7 @@ close_fault form f m =
 
 -- every account gains its power line
 abbrev pub charged : Memory → Memory
-charged m = record m {
-  accounts = map (charged_at m.agents m.accounts) (range_with_len 0 (length m.accounts));
-}
+charged m = record m { accounts = accounts_charged m.agents m.accounts }
 
 abbrev pub closed : Meaning → MonthFigures → Memory → Outcome MonthFigures
 closed form f m = outcome (close_fault form f m) f m (charged m)

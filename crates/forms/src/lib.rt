@@ -64,6 +64,18 @@ pub struct Contract {
     pub margin: u32,
 }
 
+impl Contract {
+    ghost use Rattle.std.specs.Prelude.{◌≡◌};
+    ghost use Rattle.forms.specs.Parties.{party_numbers};
+
+    /// The numbers of its parties, in their order.
+    pub fn party_numbers(&self) -> [u32; 2]
+        ensures { result ≡ party_numbers self.now }
+    {
+        [self.seller, self.buyer]
+    }
+}
+
 /// A party to a contract: its role (1 generator, 2 distributor, 3 large consumer) and its capacity in kilowatt-hours of an hour.
 #[derive(Clone, Copy)]
 pub struct Party {

@@ -1,13 +1,13 @@
 -- Only what stands, asked of a book at its opening: all of it is done, and the same stands. Assumes nothing.
 use Rattle.std.specs.{List.list_all, Option.option_map}
-use Rattle.std.proofs.Common.{◌≡◌, ℕ, zero, suc, ◌+◌, ◌-◌, ◌<◌, true, cond, not, ◌&&◌, ◌||◌, eqb, ltb, leb, List, [], ◌∷◌, ◌++◌, length, get_or, set, replicate, is_some, Some, None, Option, sym, refl, ap, ◌∙◌, subst, arith}
-use Rattle.std.proofs.lemmas.{List.append_assoc, List.length_push, List.get_or_at, List.set_at, List.Sorted.IsPermutation-refl, Bool.Decides.nat_tests, Bool.le-leb, Bool.lt-ltb, Bool.le-ltb, Bool.and_parts, Bool.and_from, Bool.cond-true, Bool.cond-false}
+use Rattle.std.proofs.Common.{◌≡◌, ℕ, zero, suc, ◌+◌, ◌-◌, ◌<◌, true, cond, not, ◌&&◌, ◌||◌, ltb, leb, List, [], ◌∷◌, ◌++◌, length, get_or, set, replicate, is_some, Some, None, Option, sym, refl, ap, ◌∙◌, subst, arith}
+use Rattle.std.proofs.lemmas.{List.append_assoc, List.length_push, List.get_or_at, List.set_at, List.Sorted.IsPermutation-refl, Bool.Decides.nat_tests, Bool.le-leb, Bool.lt-ltb, Bool.and_parts, Bool.and_from, Bool.cond-true}
 use Rattle.tally.specs.Failing.{first_failing}
 use Rattle.tally.proofs.Failing.{first_failing_same, first_failing_none}
 use Rattle.forms.specs.{declared.Contract.Contract, Meaning.Meaning, Limits.most_contracts}
 use Rattle.settlement.specs.{declared.faults.BookFault.TheVariants.MissingHour, declared.faults.BookFault.TheVariants.NoPowerCarrier, declared.faults.BookFault.TheVariants.ContractNumber, declared.faults.BookFault.TheVariants.CoveredHour, declared.states.State.State, declared.states.State.TheVariants.Open, declared.states.State.TheVariants.Closed, Faults.met_if, Faults.first_met, Power.power_uncarried, Posting.Posting, ContractFaults.contract_fault, ContractFaults.contract_fits, ContractFaults.place_fits}
 use Rattle.settlement.proofs.FaultTables.{none_is}
-use Rattle.law.specs.{Requests.Opening, Requests.hours_in, Requests.Request, Requests.posting, Requests.entering, Requests.closing, Requests.statement, Standing.Standing, Standing.nothing_stands, Standing.standing_with, Standing.stands, Standing.setting_in, Faults.withdrawn_of, Faults.closing_fault, Faults.fault_met, Turns.was_done, Turns.can_ask, Turns.manner, Turns.changed, Turns.left_by, Turns.next, Turns.standing_after, Turns.after, Level.Level, Level.standing_contracts, Only.entries_of, Only.posting_at, Only.postings_of, Only.closing_of, Only.only_standing, Replies.done, Replies.told_as, Replies.reply, Replies.replies_from, Replies.is_done}
+use Rattle.law.specs.{Requests.Opening, Requests.hours_in, Requests.Request, Requests.posting, Requests.entering, Requests.closing, Requests.statement, Standing.Standing, Standing.nothing_stands, Standing.standing_with, Standing.stands, Standing.setting_in, Faults.withdrawn_of, Faults.closing_fault, Faults.fault_met, Turns.was_done, Requests.can_ask, Turns.manner, Turns.changed, Turns.left_by, Turns.next, Turns.standing_after, Turns.after, Level.Level, Level.standing_contracts, Only.entries_of, Only.posting_at, Only.postings_of, Only.closing_of, Only.only_standing, Replies.done, Replies.told_as, Replies.reply, Replies.replies_from, Replies.is_done}
 use Rattle.law.proofs.{Turns.manner_asked, Postings.withdrawn_same, Sound.Sound}
 
 -- a closing meets the same fault where the same stands in the hours of the month
@@ -18,12 +18,20 @@ closing_same o s t same =
     let withdrawn : withdrawn_of o s ≡ withdrawn_of o t = λ x i. withdrawn_same o s t same i x in
     λ t. first_met (option_map (λ hour. MissingHour hour) (missing t) ∷ met_if (power_uncarried o.agents (withdrawn t)) NoPowerCarrier ∷ [])
 
+-- an open month with these postings and contracts
+abbrev open_with : (ℕ → Option Posting) → List (Option Contract) → Standing
+open_with f places = record { posted = f; places = places; state = Open }
+
 -- ---- requests that are all done
 
 -- from a standing they are all done, and leave another
 record Leads (form : Meaning) (o : Opening) (s : Standing) (requests : List Request) (left : Standing) : Type 0 where
   all : list_all is_done (replies_from form o s requests) ≡ true
   end : standing_after form o s requests ≡ left
+
+-- open months with the same contracts are the same where they have the same posting at each hour
+posted_alike : (f g : ℕ → Option Posting) (places : List (Option Contract)) → ((h : ℕ) → f h ≡ g h) → open_with f places ≡ open_with g places
+posted_alike f g places same = λ t. open_with (λ h. same h t) places
 
 module _ (form : Meaning) (o : Opening) where
   -- what is told of a request that is done says so
@@ -54,7 +62,7 @@ module _ (form : Meaning) (o : Opening) where
 
   -- an open month with contracts alone
   abbrev entered : List (Option Contract) → Standing
-  entered places = record { posted = λ hour. None; places = places; state = Open }
+  entered places = open_with (λ hour. None) places
 
   -- a contract that may stand can be entered there under a number that is free
   entering_fine : (front rest : List (Option Contract)) (n : ℕ) (c : Contract) → length front ≡ n → n < most_contracts → contract_fits (setting_in form o nothing_stands) c ≡ true →
@@ -96,21 +104,15 @@ module _ (form : Meaning) (o : Opening) where
   module _ (s : Standing) (sound : Sound form o s) where
     -- an open month with the same contracts, and the same postings in so many hours
     abbrev up_to : ℕ → Standing
-    up_to n = record { posted = λ h. cond (ltb h n) (s.posted h) None; places = s.places; state = Open }
+    up_to n = open_with (λ h. cond (ltb h n) (s.posted h) None) s.places
 
     -- one hour more
     with_more : (hour : ℕ) → standing_with hour (s.posted hour) (up_to hour) ≡ up_to (hour + 1)
-    with_more hour = λ t. record { posted = λ h. here h t; places = s.places; state = Open }
-      where
-        here : (h : ℕ) → cond (eqb h hour) (s.posted hour) (cond (ltb h hour) (s.posted h) None) ≡ cond (ltb h (hour + 1)) (s.posted h) None
-        here h = grind (arith, nat_tests)
+    with_more hour = posted_alike _ _ s.places (λ h. grind (arith, nat_tests))
 
     -- the next hour is free
     with_none : (hour : ℕ) → up_to hour ≡ standing_with hour None (up_to hour)
-    with_none hour = λ t. record { posted = λ h. here h t; places = s.places; state = Open }
-      where
-        here : (h : ℕ) → cond (ltb h hour) (s.posted h) None ≡ cond (eqb h hour) None (cond (ltb h hour) (s.posted h) None)
-        here h = grind (arith, nat_tests)
+    with_none hour = posted_alike _ _ s.places (λ h. grind (arith, nat_tests))
 
     -- what stands at an hour comes to stand there again
     posting_lead : (hour : ℕ) → hour < hours_in o → (q : Option Posting) → s.posted hour ≡ q → Leads form o (up_to hour) (posting_at q) (up_to (hour + 1))
@@ -147,8 +149,7 @@ module _ (form : Meaning) (o : Opening) where
     -- the contracts, the postings and the closing, one after the other
     again_leads : Leads form o nothing_stands (only_standing o s) (closed_as s.state)
     again_leads =
-        let none : entered s.places ≡ up_to 0 =
-        λ t. record { posted = λ h. sym (cond-false _ (s.posted h) None (le-ltb h 0 (omega arith))) t; places = s.places; state = Open } in
+        let none : entered s.places ≡ up_to 0 = posted_alike _ _ s.places (λ h. grind (arith, nat_tests)) in
         let blank : entered (replicate (length s.places) None) ≡ nothing_stands = ap (λ n. entered (replicate n None)) sound.long in
         let contracts : Leads form o (entered (replicate (length s.places) None)) (entries_of 1 s.places) (entered s.places) =
         entries_lead [] s.places 0 refl (omega (arith, sound.long)) sound.contracts in

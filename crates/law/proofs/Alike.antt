@@ -5,12 +5,8 @@ use Rattle.std.proofs.lemmas.{Bool.and_parts, List.Sorted.IsPermutation-refl}
 use Rattle.tally.proofs.{Numbers.map_counting_same, Numbers.int_lawful, Sums.total_over_same}
 use Rattle.forms.specs.{declared.Contract.Contract, declared.Parties.Parties, Meaning.Meaning, Meaning.Keeps, Meaning.Alike, Terms.number_fits, Terms.numbers_apart, Terms.party_fits, Terms.parties_fit, Terms.figures_fit, Terms.hours_fit, Parties.party_numbers, Parties.members_of}
 use Rattle.settlement.specs.{declared.faults.BookFault.BookFault, declared.faults.BookFault.TheVariants.ContractTerms, ContractFaults.parties_of, ContractFaults.in_book, ContractFaults.taken_fault, ContractFaults.covered_fault, ContractFaults.contract_fault, Faults.met_if, Faults.first_met}
-use Rattle.law.specs.{Law.Book, Law.Ran, Requests.Opening, Requests.count_in, Requests.hours_in, Requests.Request, Requests.entering, Requests.statement, Standing.Standing, Standing.nothing_stands, Standing.stands, Standing.setting_in, Faults.fault_met, Turns.Manner, Turns.was_done, Turns.was_skipped, Turns.can_ask, Turns.judged, Turns.manner, Turns.left_by, Turns.next, Turns.standing_after, Turns.after, Level.Level, Level.standing_contracts, Worked.worked, Worked.agent_balance, Replies.stated, Replies.told_as, Replies.reply, Replies.replies_from}
+use Rattle.law.specs.{Law.Book, Law.Ran, Requests.Opening, Requests.count_in, Requests.hours_in, Requests.Request, Requests.entering, Requests.statement, Standing.Standing, Standing.nothing_stands, Standing.stands, Standing.setting_in, Faults.fault_met, Turns.Manner, Turns.was_done, Turns.was_skipped, Requests.can_ask, Turns.judged, Turns.manner, Turns.left_by, Turns.next, Turns.standing_after, Turns.after, Level.Level, Worked.worked, Worked.agent_balance, Replies.stated, Replies.told_as, Replies.replies_from}
 use Rattle.law.proofs.{Order.order, Sound.Opened, Sound.Sound, Soundness.sound_none, Soundness.sound_next, Soundness.sound_after}
-
--- what stands is the same as itself
-pub level_itself : (o : Opening) (s : Standing) → Level o s s
-level_itself o s = record { hours = λ hour within. refl; contracts = IsPermutation-refl (standing_contracts s.places); state = refl }
 
 module _ (form : Meaning) (keeps : Keeps form) (o : Opening) (opened : Opened o) (same : Meaning) (alike : Alike form same) where
   -- the same contracts may stand: the forms are asked where the parties are agents of the book, and take the same terms of those
@@ -46,7 +42,9 @@ module _ (form : Meaning) (keeps : Keeps form) (o : Opening) (opened : Opened o)
 
   -- what stands is worked to the same statements
   worked_alike : (s : Standing) → Sound form o s → (i : ℕ) → worked same o s i ≡ worked form o s i
-  worked_alike s sound i = order form keeps o opened s sound same alike s (level_itself o s) i
+  worked_alike s sound i =
+      let itself : Level o s s = record { hours = λ hour within. refl; contracts = IsPermutation-refl _; state = refl } in
+      order form keeps o opened s sound same alike s itself i
 
   -- so the same is told
   told_alike : (s : Standing) → Sound form o s → (r : Request) (m : Manner) → told_as same o s r m ≡ told_as form o s r m
@@ -54,15 +52,12 @@ module _ (form : Meaning) (keeps : Keeps form) (o : Opening) (opened : Opened o)
   told_alike s sound _ was_done = refl
   told_alike s sound r _ = refl
 
-  reply_alike : (s : Standing) → Sound form o s → (r : Request) → reply same o s r ≡ reply form o s r
-  reply_alike s sound r = ap (told_as same o s r) (manner_alike s r) ∙ told_alike s sound r (manner form o s r)
-
   -- of every list of requests, from whatever stands
   replies_from_alike : (s : Standing) → Sound form o s → (requests : List Request) → replies_from same o s requests ≡ replies_from form o s requests
   replies_from_alike s sound [] = refl
   replies_from_alike s sound (r ∷ rs) =
       let rest = ap (λ t. replies_from same o t rs) (next_alike s r) ∙ replies_from_alike (next form o s r) (sound_next form o s sound r) rs in
-      λ t. reply_alike s sound r t ∷ rest t
+      let told = ap (told_as same o s r) (manner_alike s r) ∙ told_alike s sound r (manner form o s r) in λ t. told t ∷ rest t
 
   standing_after_alike : (s : Standing) (requests : List Request) → standing_after same o s requests ≡ standing_after form o s requests
   standing_after_alike s [] = refl

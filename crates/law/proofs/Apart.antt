@@ -2,7 +2,7 @@
 use Rattle.std.proofs.Common.{◌≡◌, Bool, true, false, cond, List, [], ◌∷◌, map, replicate, None, sym, refl, ap, ◌∙◌}
 use Rattle.std.proofs.lemmas.Bool.{true≢false, false≢true}
 use Rattle.forms.specs.{Limits.most_contracts, Meaning.Meaning}
-use Rattle.law.specs.{Requests.Opening, Requests.Request, Requests.entering, Requests.cancelling, Requests.statement, Requests.about_contracts, Requests.without_contracts, Requests.told_without, Standing.Standing, Standing.nothing_stands, Faults.fault_met, Turns.Manner, Turns.was_done, Turns.was_refused, Turns.was_skipped, Turns.can_ask, Turns.judged, Turns.manner, Turns.left_by, Turns.next, Turns.standing_after, Turns.after, Replies.Reply, Replies.told_as, Replies.reply, Replies.replies_from, Replies.manner_of}
+use Rattle.law.specs.{Requests.Opening, Requests.Request, Requests.entering, Requests.cancelling, Requests.statement, Requests.about_contracts, Requests.without_contracts, Requests.told_without, Standing.Standing, Faults.fault_met, Turns.Manner, Turns.was_done, Turns.was_skipped, Requests.can_ask, Turns.judged, Turns.manner, Turns.left_by, Turns.next, Turns.standing_after, Replies.Reply, Replies.told_as, Replies.reply, Replies.replies_from, Replies.manner_of}
 
 -- what stands, its contracts apart
 abbrev pub apart : Standing → Standing
@@ -23,8 +23,7 @@ module _ (form : Meaning) (o : Opening) where
   told_manner : (s : Standing) (r : Request) (m : Manner) → manner_of (told_as form o s r m) ≡ m
   told_manner s (statement agent) was_done = refl
   told_manner s _ was_done = refl
-  told_manner s r (was_refused fault) = refl
-  told_manner s r was_skipped = refl
+  told_manner s r _ = refl
 
   -- so both are told the same manner
   manner_apart : (s : Standing) (r : Request) → about_contracts r ≡ false → manner_of (reply form o s r) ≡ manner_of (reply form o (apart s) r)
@@ -48,26 +47,18 @@ module _ (form : Meaning) (o : Opening) where
   left_about s _ was_done about = absurd (false≢true about)
   left_about s r _ about = refl
 
-  -- so what stands next is as before, contracts apart
-  next_about : (s : Standing) (r : Request) → about_contracts r ≡ true → apart s ≡ apart (next form o s r)
-  next_about s r about = left_about s r (manner form o s r) about
-
   -- what stands without the requests about contracts is what stands with them, its contracts apart
-  from_apart : (s : Standing) (requests : List Request) → standing_after form o (apart s) (without_contracts requests) ≡ apart (standing_after form o s requests)
+  pub from_apart : (s : Standing) (requests : List Request) → standing_after form o (apart s) (without_contracts requests) ≡ apart (standing_after form o s requests)
   from_apart s [] = refl
   from_apart s (r ∷ rs) = at (about_contracts r) refl ∙ from_apart (next form o s r) rs
     where
       at : (about : Bool) → about_contracts r ≡ about →
           standing_after form o (apart s) (cond about (without_contracts rs) (r ∷ without_contracts rs)) ≡ standing_after form o (apart (next form o s r)) (without_contracts rs)
-      at true about = ap (λ t. standing_after form o t (without_contracts rs)) (next_about s r about)
+      at true about = ap (λ t. standing_after form o t (without_contracts rs)) (left_about s r (manner form o s r) about)
       at false other = ap (λ t. standing_after form o t (without_contracts rs)) (next_apart s r other)
 
-  -- and so after any list from an opening
-  pub after_apart : (requests : List Request) → after form o (without_contracts requests) ≡ apart (after form o requests)
-  after_apart requests = from_apart nothing_stands requests
-
   -- requests that both books heard are answered in the same manner
-  alike_from : (s : Standing) (requests : List Request) →
+  pub alike_from : (s : Standing) (requests : List Request) →
       map manner_of (told_without requests (replies_from form o s requests)) ≡ map manner_of (replies_from form o (apart s) (without_contracts requests))
   alike_from s [] = refl
   alike_from s (r ∷ rs) = at (about_contracts r) refl (alike_from (next form o s r) rs)
@@ -81,10 +72,5 @@ module _ (form : Meaning) (o : Opening) where
       at : (about : Bool) → about_contracts r ≡ about → map manner_of (told_without rs told) ≡ rest (apart (next form o s r)) →
           map manner_of (cond about (told_without rs told) (reply form o s r ∷ told_without rs told)) ≡
           map manner_of (replies_from form o (apart s) (cond about (without_contracts rs) (r ∷ without_contracts rs)))
-      at true about same = same ∙ ap rest (sym (next_about s r about))
+      at true about same = same ∙ ap rest (sym (left_about s r (manner form o s r) about))
       at false other same = let after : _ ≡ _ = same ∙ ap rest (sym (next_apart s r other)) in λ t. manner_apart s r other t ∷ after t
-
-  -- and so from an opening
-  pub alike : (requests : List Request) →
-      map manner_of (told_without requests (replies_from form o nothing_stands requests)) ≡ map manner_of (replies_from form o nothing_stands (without_contracts requests))
-  alike requests = alike_from nothing_stands requests

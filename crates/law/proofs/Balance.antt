@@ -1,10 +1,10 @@
 -- All balances together are minus the residue of the standing hours. Assumes nothing.
-use Rattle.std.proofs.Common.{◌≡◌, ℕ, ◌+◌, ◌<◌, ◌≤◌, false, ℤ, pos, ◌+ℤ◌, neg_ℤ, sym, refl, ap, ◌∙◌, arith}
+use Rattle.std.proofs.Common.{◌≡◌, ℕ, ◌+◌, ◌<◌, ◌≤◌, ℤ, pos, ◌+ℤ◌, neg_ℤ, sym, refl, ap, ◌∙◌, arith}
 use Rattle.std.proofs.lemmas.Int.{ints}
 use Rattle.tally.specs.{declared.money.MoneyLine.MoneyLine, declared.money.MoneyLine.TheVariants.Market, declared.money.MoneyLine.TheVariants.Power, Lines.no_lines, Lines.lines_joined, Lines.alone, Lines.balance_of, Sums.int_sum_over, Sums.lines_over, Sums.sum_to_ℤ, LinesLaws.lines_lawful}
 use Rattle.tally.proofs.{Sums.total_over_same, Sums.total_over_map, Sums.total_over_none, Sums.total_over_joined, Sums.total_over_swapped, Lines.balance_of-over, Lines.alone-none, Lines.alone-joined, Numbers.int_sum_over_neg, Numbers.int_lawful}
 use Rattle.forms.specs.Meaning.{Meaning, Keeps}
-use Rattle.settlement.specs.{declared.states.State.State, declared.states.State.TheVariants.Open, declared.states.State.TheVariants.Closed, Power.power_uncarried, Power.power_line}
+use Rattle.settlement.specs.{declared.states.State.State, declared.states.State.TheVariants.Open, declared.states.State.TheVariants.Closed, Power.power_line}
 use Rattle.settlement.proofs.{FaultTables.unmet, FaultTables.first_met_none, Even.even, Even.even_lines}
 use Rattle.law.specs.{Requests.Opening, Requests.count_in, Requests.hours_in, Standing.Standing, Standing.setting_in, Faults.withdrawn_of, Faults.closing_faults, Worked.figures_from, Worked.figures_at, Worked.lines_between, Worked.power_in, Worked.power_of, Worked.agent_lines, Worked.balances_after, Worked.residue_from, Worked.residue_between, Worked.residue_after}
 use Rattle.law.proofs.{Accepted.at_standing, Power.power_together, Sound.Opened, Sound.Sound}
@@ -19,17 +19,14 @@ alone_over line start n f =
 -- ---- what stands
 
 module _ (form : Meaning) (keeps : Keeps form) (o : Opening) (opened : Opened o) (s : Standing) (sound : Sound form o s) where
-  -- a closed month could be closed, and so something carries the power that is due
-  power_carried : s.state ≡ Closed → power_uncarried o.agents (withdrawn_of o s) ≡ false
-  power_carried is = unmet _ _ (sym (first_met_none (closing_faults o s) (sound.closable is)).1.0)
-
-  -- so all power lines come to nothing, also while the month is open, when each is 0
+  -- a closed month could be closed, and so something carries the power that is due: all power lines come to nothing, also
+  -- while the month is open, when each is 0
   powers_together : sum_to_ℤ (count_in o) (power_of o s) ≡ pos 0
   powers_together = by s.state refl
     where
       by : (state : State) → s.state ≡ state → sum_to_ℤ (count_in o) (λ i. power_in state (power_line o.agents (withdrawn_of o s) i)) ≡ pos 0
       by Open is = total_over_none int_lawful 0 (count_in o) (λ i. pos 0) (λ i low below. refl)
-      by Closed is = power_together o.agents (withdrawn_of o s) (power_carried is)
+      by Closed is = power_together o.agents (withdrawn_of o s) (unmet _ _ (sym (first_met_none (closing_faults o s) (sound.closable is)).1.0))
 
   -- what an hour gives all agents together
   hour_together : (hour : ℕ) → hour < hours_in o → lines_over 0 (count_in o) (λ i. (figures_at form o s i hour).lines) ≡ alone Market (neg_ℤ (residue_from (s.posted hour)))

@@ -1,8 +1,8 @@
 -- Nothing that is worked from what stands is too large for memory. Assumes nothing.
-use Rattle.std.proofs.Common.{◌≡◌, ℕ, ◌*◌, ◌<◌, ◌≤◌, ℤ, pos, nat_abs, Some, None, Option, refl, ◌∙◌, subst, arith, w64, SFits}
+use Rattle.std.proofs.Common.{◌≡◌, ℕ, ◌*◌, ◌<◌, ◌≤◌, ℤ, pos, nat_abs, Some, None, Option, refl, ◌∙◌, subst, arith}
 use Rattle.std.proofs.lemmas.Int.{ints}
 use Rattle.tally.specs.{declared.money.MoneyLine.MoneyLine, declared.money.MoneyLine.TheVariants.Market, declared.money.MoneyLine.TheVariants.Contract as Contracted, declared.money.MoneyLine.TheVariants.Overcost, declared.money.MoneyLine.TheVariants.Power, Lines.LinesWithin, Lines.line_on, Lines.no_lines, Sums.sum_to}
-use Rattle.tally.proofs.{Numbers.fits_abs, Numbers.int_lawful, Numbers.nat_lawful, Numbers.nat_sum_over_le, Sums.total_over_none, Sums.total_over_swapped, Lines.lines_over_within, Lines.line_on-over, Lines.balance_of_within}
+use Rattle.tally.proofs.{Numbers.int_lawful, Numbers.nat_lawful, Numbers.nat_sum_over_le, Sums.total_over_none, Sums.total_over_swapped, Lines.lines_over_within, Lines.line_on-over, Lines.balance_of_within}
 use Rattle.valuation.specs.Limits.{most_energy}
 use Rattle.valuation.proofs.Amounts.{amount_of_le}
 use Rattle.forms.specs.{Meaning.Meaning, Meaning.Keeps, Limits.most_leg, Limits.most_agents}
@@ -14,33 +14,19 @@ use Rattle.law.proofs.{Accepted.line_within_at, Accepted.at_standing, Power.powe
 -- ---- the energies of an hour
 
 -- they are the posting's own, whatever contracts stand
-pub figures_injected : (setting : Setting) (i : ℕ) (q : Option Posting) → (figures_from setting i q).injected ≡ injected_in i q
-figures_injected setting i None = refl
-figures_injected setting i (Some p) = refl
-
-pub figures_withdrawn : (setting : Setting) (i : ℕ) (q : Option Posting) → (figures_from setting i q).withdrawn ≡ withdrawn_in i q
-figures_withdrawn setting i None = refl
-figures_withdrawn setting i (Some p) = refl
+pub figures_energies : (setting : Setting) (i : ℕ) (q : Option Posting) →
+    ((figures_from setting i q).injected ≡ injected_in i q) × ((figures_from setting i q).withdrawn ≡ withdrawn_in i q)
+figures_energies setting i None = (refl, refl)
+figures_energies setting i (Some p) = (refl, refl)
 
 -- ---- what stands
 
 module _ (form : Meaning) (keeps : Keeps form) (o : Opening) (opened : Opened o) (s : Standing) (sound : Sound form o s) where
-  -- what an agent injected in an hour
-  injected_in_le : (i hour : ℕ) → i < count_in o → hour < hours_in o → injected_in i (s.posted hour) ≤ most_energy
-  injected_in_le i hour below within =
-      at_standing form o opened s sound (λ h q. injected_in i q ≤ most_energy) (λ h. omega arith) (λ p sane. (line_within_at (setting_in form o s) p sane i below).injected) hour within
-
-  -- what an agent withdrew in an hour
-  withdrawn_in_le : (i hour : ℕ) → i < count_in o → hour < hours_in o → withdrawn_in i (s.posted hour) ≤ most_energy
-  withdrawn_in_le i hour below within =
-      at_standing form o opened s sound (λ h q. withdrawn_in i q ≤ most_energy) (λ h. omega arith) (λ p sane. (line_within_at (setting_in form o s) p sane i below).withdrawn) hour within
-
-  -- the same of the figures of an hour
-  pub injected_le : (i hour : ℕ) → i < count_in o → hour < hours_in o → (figures_at form o s i hour).injected ≤ most_energy
-  injected_le i hour below within = omega (arith, injected_in_le i hour below within, figures_injected (setting_in form o s) i (s.posted hour))
-
-  pub withdrawn_le : (i hour : ℕ) → i < count_in o → hour < hours_in o → (figures_at form o s i hour).withdrawn ≤ most_energy
-  withdrawn_le i hour below within = omega (arith, withdrawn_in_le i hour below within, figures_withdrawn (setting_in form o s) i (s.posted hour))
+  -- what an agent injected and withdrew in an hour
+  pub energies_le : (i hour : ℕ) → i < count_in o → hour < hours_in o → (injected_in i (s.posted hour) ≤ most_energy) × (withdrawn_in i (s.posted hour) ≤ most_energy)
+  energies_le i hour below within =
+      at_standing form o opened s sound (λ h q. (injected_in i q ≤ most_energy) × (withdrawn_in i q ≤ most_energy)) (λ h. (omega arith, omega arith))
+      (λ p sane. let w = line_within_at (setting_in form o s) p sane i below in (w.injected, w.withdrawn)) hour within
 
   -- what all withdrew in an hour
   together_le : (hour : ℕ) → hour < hours_in o → sum_to (count_in o) (λ i. withdrawn_in i (s.posted hour)) ≤ most_energy
@@ -54,13 +40,13 @@ module _ (form : Meaning) (keeps : Keeps form) (o : Opening) (opened : Opened o)
   -- what an agent injected
   pub injected_of_le : (i : ℕ) → i < count_in o → injected_of o s i ≤ most_month_energy
   injected_of_le i below =
-      let each = nat_sum_over_le 0 (hours_in o) (λ hour. injected_in i (s.posted hour)) most_energy (λ hour low within. injected_in_le i hour below (omega arith)) in
+      let each = nat_sum_over_le 0 (hours_in o) (λ hour. injected_in i (s.posted hour)) most_energy (λ hour low within. (energies_le i hour below (omega arith)).0) in
       omega (arith, opened.few_days)
 
   -- what an agent withdrew
   pub withdrawn_of_le : (i : ℕ) → i < count_in o → withdrawn_of o s i ≤ most_month_energy
   withdrawn_of_le i below =
-      let each = nat_sum_over_le 0 (hours_in o) (λ hour. withdrawn_in i (s.posted hour)) most_energy (λ hour low within. withdrawn_in_le i hour below (omega arith)) in
+      let each = nat_sum_over_le 0 (hours_in o) (λ hour. withdrawn_in i (s.posted hour)) most_energy (λ hour low within. (energies_le i hour below (omega arith)).1) in
       omega (arith, opened.few_days)
 
   -- what all withdrew
@@ -124,21 +110,12 @@ module _ (form : Meaning) (keeps : Keeps form) (o : Opening) (opened : Opened o)
 
   -- so each line of a month
   pub lines_within : (i : ℕ) → i < count_in o → LinesWithin most_line_of_a_month (agent_lines form o s i)
-  lines_within i below = on
-    where
-      hours : LinesWithin (hours_in o * most_line_of_an_hour) (lines_between form o s 0 (hours_in o) i)
-      hours = lines_over_within 0 (hours_in o) (λ hour. (figures_at form o s i hour).lines) most_line_of_an_hour (λ hour low within. hour_within i hour below (omega arith))
-
-      on : LinesWithin most_line_of_a_month (agent_lines form o s i)
-      on Market = omega (arith, ints, hours Market, opened.few_days)
-      on Contracted = omega (arith, ints, hours Contracted, opened.few_days)
-      on Overcost = omega (arith, ints, hours Overcost, opened.few_days)
-      on Power = omega (arith, ints, no_power i 0 (hours_in o), power_abs i below)
+  lines_within i below Power = omega (arith, ints, no_power i 0 (hours_in o), power_abs i below)
+  lines_within i below line =
+      let hours : LinesWithin (hours_in o * most_line_of_an_hour) (lines_between form o s 0 (hours_in o) i) =
+      lines_over_within 0 (hours_in o) (λ hour. (figures_at form o s i hour).lines) most_line_of_an_hour (λ hour low within. hour_within i hour below (omega arith)) in
+      omega (arith, ints, hours line, opened.few_days)
 
   -- and the balance
   pub balance_abs : (i : ℕ) → i < count_in o → nat_abs (agent_balance form o s i) ≤ most_balance
   balance_abs i below = balance_of_within most_line_of_a_month (agent_lines form o s i) (lines_within i below)
-
-  -- so that it fits 64 bits
-  pub balance_fits : (i : ℕ) → i < count_in o → SFits w64 (agent_balance form o s i)
-  balance_fits i below = fits_abs (agent_balance form o s i) (omega (arith, balance_abs i below))

@@ -1,16 +1,12 @@
 -- What leaves the same standing gives every agent the same statement, by whichever form of the same meaning. Assumes nothing.
-use Rattle.std.proofs.Common.{◌≡◌, ℕ, ◌<◌, List, Some, sym, refl, ap, ◌∙◌, arith}
+use Rattle.std.proofs.Common.{◌≡◌, ℕ, ◌<◌, Some, sym, refl, ap, ◌∙◌, arith}
 use Rattle.tally.specs.LinesLaws.{lines_lawful}
 use Rattle.tally.proofs.Sums.{total_over_same}
 use Rattle.forms.specs.Meaning.{Meaning, Keeps, Alike}
-use Rattle.settlement.specs.{declared.agents.Agent.Agent, Posting.line_at, Posting.Posting, Power.power_line, Legs.is_number, Hour.caused_sum, Hour.carried_by, Hour.figures_with}
+use Rattle.settlement.specs.{Posting.line_at, Posting.Posting, Power.power_line, Legs.is_number, Hour.caused_sum, Hour.carried_by, Hour.figures_with}
 use Rattle.settlement.proofs.Checked.{Checked}
-use Rattle.law.specs.{Requests.Opening, Requests.hours_in, Standing.Standing, Standing.setting_in, Faults.withdrawn_of, Level.Level, Worked.figures_from, Worked.figures_at, Worked.power_in, Worked.power_of, Worked.worked}
+use Rattle.law.specs.{Requests.Opening, Requests.hours_in, Standing.Standing, Standing.setting_in, Level.Level, Worked.figures_from, Worked.figures_at, Worked.power_in, Worked.worked}
 use Rattle.law.proofs.{Accepted.at_standing, Legs.contract_points_level, Postings.withdrawn_same, Postings.worked_same, Sound.Opened, Sound.Sound}
-
--- the power line depends on what each agent withdrew alone
-power_same : (agents : List Agent) (f g : ℕ → ℕ) → ((j : ℕ) → f j ≡ g j) → (i : ℕ) → power_line agents f i ≡ power_line agents g i
-power_same agents f g same i = ap (λ withdrawn. power_line agents withdrawn i) (λ t j. same j t)
 
 module _ (form : Meaning) (keeps : Keeps form) (o : Opening) (opened : Opened o) (s : Standing) (sound : Sound form o s) (same : Meaning) (alike : Alike form same) (t : Standing) (level : Level o s t) (i : ℕ) where
   -- an accepted posting gives an agent the same figures
@@ -25,16 +21,10 @@ module _ (form : Meaning) (keeps : Keeps form) (o : Opening) (opened : Opened o)
       sym (ap (figures_from (setting_in same o t) i) (level.hours hour within))
       ∙ at_standing form o opened s sound (λ h q. figures_from (setting_in same o t) i q ≡ figures_from (setting_in form o s) i q) (λ h. refl) posting_same hour within
 
-  -- equal power lines
-  powers_same : power_of o t i ≡ power_of o s i
-  powers_same =
-      ap (λ state. power_in state (power_line o.agents (withdrawn_of o t) i)) (sym level.state)
-      ∙ ap (power_in s.state) (power_same o.agents (withdrawn_of o t) (withdrawn_of o s) (λ j. sym (withdrawn_same o s t level.hours j)) i)
-
-  -- and so equal statements
+  -- and equal power lines, and so equal statements
   pub order : worked same o t i ≡ worked form o s i
   order =
       worked_same same form o t s (λ hour within. sym (level.hours hour within)) i
       (total_over_same lines_lawful 0 (hours_in o) (λ hour. (figures_at same o t i hour).lines) (λ hour. (figures_at form o s i hour).lines)
       (λ hour low within. ap (λ f. f.lines) (figures_same hour (omega arith))))
-      powers_same
+      (sym (λ x. power_in (level.state x) (power_line o.agents (λ j. withdrawn_same o s t level.hours j x) i)))

@@ -1,9 +1,9 @@
 -- Where the same postings stand in two books, energies and peaks are the same. Assumes nothing.
-use Rattle.std.proofs.Common.{◌≡◌, ℕ, ◌<◌, ℤ, ap, arith}
-use Rattle.tally.specs.{declared.peak.Peak.Peak, declared.money.MoneyLine.TheVariants.Power, Peak.peak_of, PeakLaws.peak_lawful, Lines.Lines, Lines.lines_joined, Lines.alone, Lines.balance_of}
+use Rattle.std.proofs.Common.{◌≡◌, ℕ, ◌<◌, ap, arith}
+use Rattle.tally.specs.{declared.money.MoneyLine.TheVariants.Power, Peak.peak_of, PeakLaws.peak_lawful, Lines.Lines, Lines.lines_joined, Lines.alone, Lines.balance_of}
 use Rattle.tally.proofs.{Sums.total_over_same, Numbers.nat_lawful}
 use Rattle.forms.specs.Meaning.{Meaning}
-use Rattle.law.specs.{Requests.Opening, Requests.hours_in, Standing.Standing, Faults.withdrawn_in, Faults.withdrawn_of, Worked.lines_between, Worked.power_of, Worked.injected_in, Worked.injected_of, Worked.peak_for, Worked.Worked, Worked.worked}
+use Rattle.law.specs.{Requests.Opening, Requests.hours_in, Standing.Standing, Faults.withdrawn_in, Faults.withdrawn_of, Worked.lines_between, Worked.power_of, Worked.injected_in, Worked.injected_of, Worked.peak_for, Worked.worked}
 
 module _ (o : Opening) (s t : Standing) (same : (hour : ℕ) → hour < hours_in o → s.posted hour ≡ t.posted hour) (i : ℕ) where
   -- what an agent injected
@@ -24,14 +24,10 @@ module _ (o : Opening) (s t : Standing) (same : (hour : ℕ) → hour < hours_in
       total_over_same peak_lawful 0 (hours_in o) (λ hour. peak_of (withdrawn_in i (s.posted hour)) hour) (λ hour. peak_of (withdrawn_in i (t.posted hour)) hour)
       (λ hour low within. ap (λ q. peak_of (withdrawn_in i q) hour) (same hour (omega arith)))
 
--- a statement from its hours' lines, its power, its energies and its peak
-abbrev stated_with : Lines → ℤ → (injected withdrawn : ℕ) → Peak → Worked
-stated_with hours power injected withdrawn peak =
-    let lines : Lines = lines_joined hours (alone Power power) in
-    record { lines = lines; balance = balance_of lines; injected = injected; withdrawn = withdrawn; peak = peak }
-
 -- where the same postings stand, the lines of the hours and the power line tell whether two statements are the same
 pub worked_same : (form other : Meaning) (o : Opening) (s t : Standing) → ((hour : ℕ) → hour < hours_in o → s.posted hour ≡ t.posted hour) → (i : ℕ) →
     lines_between form o s 0 (hours_in o) i ≡ lines_between other o t 0 (hours_in o) i → power_of o s i ≡ power_of o t i → worked form o s i ≡ worked other o t i
 worked_same form other o s t same i lines power =
-    λ x. stated_with (lines x) (power x) (injected_same o s t same i x) (withdrawn_same o s t same i x) (peak_same o s t same i x)
+    λ x.
+    let all : Lines = lines_joined (lines x) (alone Power (power x)) in
+    record { lines = all; balance = balance_of all; injected = injected_same o s t same i x; withdrawn = withdrawn_same o s t same i x; peak = peak_same o s t same i x }

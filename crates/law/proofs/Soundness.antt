@@ -5,7 +5,7 @@ use Rattle.std.proofs.lemmas.{List.length-set, Bool.false≢true, Bool.eqb-true,
 use Rattle.forms.specs.{declared.Contract.Contract, Meaning.Meaning}
 use Rattle.settlement.specs.{declared.states.State.TheVariants.Closed, ContractFaults.taken_fault, ContractFaults.covered_fault, ContractFaults.contract_fault, ContractFaults.place_fits, Posting.Posting}
 use Rattle.settlement.proofs.FaultTables.{first_met_none}
-use Rattle.law.specs.{Requests.Opening, Requests.hours_in, Requests.Request, Requests.posting, Requests.withdrawal, Requests.entering, Requests.cancelling, Requests.closing, Standing.Standing, Standing.nothing_stands, Standing.standing_with, Standing.placed_with, Standing.stands, Standing.setting_in, Faults.fault_met, Turns.can_ask, Turns.changed, Turns.next, Turns.standing_after, Turns.after}
+use Rattle.law.specs.{Requests.Opening, Requests.hours_in, Requests.Request, Requests.posting, Requests.withdrawal, Requests.entering, Requests.cancelling, Requests.closing, Standing.Standing, Standing.nothing_stands, Standing.standing_with, Standing.placed_with, Standing.stands, Standing.setting_in, Faults.fault_met, Requests.can_ask, Turns.changed, Turns.next, Turns.standing_after, Turns.after}
 use Rattle.law.proofs.{Turns.next_both, Sound.MayStand, Sound.Sound}
 
 -- a list that passes still does with one item that passes in another's place
@@ -19,12 +19,7 @@ all_of_set test (y ∷ ys) (suc i) x all passes =
 module _ (form : Meaning) (o : Opening) where
   -- what stands at an opening is sound
   pub sound_none : Sound form o nothing_stands
-  sound_none = record {
-    postings = λ hour p within is. cc;
-    long = refl;
-    contracts = refl;
-    closable = λ is. cc;
-  }
+  sound_none = record { postings = λ hour p within is. cc; long = refl; contracts = refl; closable = λ is. cc }
 
   module _ (s : Standing) (sound : Sound form o s) where
     -- a month in which this can be asked is open, where a closed one has no way to ask it

@@ -1,18 +1,13 @@
 -- An agent that is party to none of the standing contracts has the same statement without the contracts. Assumes nothing.
 use Rattle.std.specs.List.{zip, list_any}
 use Rattle.std.proofs.Common.{◌≡◌, ℕ, ◌<◌, Bool, true, false, cond, not, List, [], ◌∷◌, ℤ, pos, ◌+ℤ◌, Some, None, Option, sym, refl, ap, ◌∙◌}
-use Rattle.std.proofs.lemmas.Bool.{or_parts, not-true}
+use Rattle.std.proofs.lemmas.Bool.{cond_both, or_parts, not-true}
 use Rattle.tally.specs.LinesLaws.{lines_lawful}
 use Rattle.tally.proofs.{Sums.total_over_same, Sums.All-passing, Numbers.int_sum_by_zero}
 use Rattle.forms.specs.{declared.Contract.Contract, Meaning.Meaning, Parties.party_numbers, Parties.points_of}
 use Rattle.settlement.specs.{ContractFaults.covers, Posting.line_at, Posting.Posting, Setting.Setting, Legs.is_number, Legs.given_to, Legs.given_in, Legs.legs_of, Legs.contract_line, Hour.caused_sum, Hour.carried_by, Hour.figures_with}
-use Rattle.law.specs.{Requests.Opening, Requests.count_in, Requests.hours_in, Requests.Request, Requests.without_contracts, Standing.Standing, Standing.setting_in, Turns.after, Parties.is_party, Parties.is_stranger, Worked.figures_from, Worked.figures_at, Worked.lines_between, Worked.worked}
-use Rattle.law.proofs.{Apart.apart, Apart.after_apart, Postings.worked_same}
-
--- either way it is the same
-either : {X : Type 0} (test : Bool) (x : X) → cond test x x ≡ x
-either true x = refl
-either false x = refl
+use Rattle.law.specs.{Requests.Opening, Requests.count_in, Requests.hours_in, Requests.Request, Requests.without_contracts, Standing.Standing, Standing.nothing_stands, Standing.setting_in, Turns.after, Parties.is_party, Parties.is_stranger, Worked.figures_from, Worked.figures_at, Worked.lines_between, Worked.worked}
+use Rattle.law.proofs.{Apart.apart, Apart.from_apart, Postings.worked_same}
 
 -- of legs by party, those that are none of the parties are given nothing
 given_none : (member : ℕ → Bool) (numbers : List ℕ) (points : List ℤ) → list_any member numbers ≡ false → given_to member (zip numbers points) ≡ pos 0
@@ -27,8 +22,7 @@ module _ (setting : Setting) (p : Posting) (i : ℕ) where
   leg_none : (place : Option Contract) → is_party i place ≡ false → given_in (is_number i) setting p place ≡ pos 0
   leg_none None stranger = refl
   leg_none (Some c) stranger =
-      ap (λ z. cond (covers c p.hour) z (pos 0)) (given_none (is_number i) (party_numbers c) (points_of (legs_of setting p c)) stranger)
-      ∙ either (covers c p.hour) (pos 0)
+      cond_both (covers c p.hour) _ (pos 0) (λ z. z ≡ pos 0) (λ covered. given_none (is_number i) (party_numbers c) (points_of (legs_of setting p c)) stranger) (λ apart. refl)
 
   -- nor do all contracts together
   pub contract_line_none : is_stranger i setting.places ≡ true → contract_line setting p i ≡ pos 0
@@ -56,4 +50,4 @@ module _ (form : Meaning) (o : Opening) (i : ℕ) (s : Standing) (stranger : is_
 pub strangers : (form : Meaning) (o : Opening) (requests : List Request) (i : ℕ) → i < count_in o → is_stranger i (after form o requests).places ≡ true →
     worked form o (after form o (without_contracts requests)) i ≡ worked form o (after form o requests) i
 strangers form o requests i agent stranger =
-    ap (λ s. worked form o s i) (after_apart form o requests) ∙ worked_apart form o i (after form o requests) stranger
+    ap (λ s. worked form o s i) (from_apart form o nothing_stands requests) ∙ worked_apart form o i (after form o requests) stranger

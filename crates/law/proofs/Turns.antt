@@ -2,7 +2,7 @@
 use Rattle.std.proofs.Common.{◌≡◌, true, false, cond, Some, None, Option, Bool, refl}
 use Rattle.forms.specs.Meaning.{Meaning}
 use Rattle.settlement.specs.declared.faults.BookFault.{BookFault}
-use Rattle.law.specs.{Requests.Opening, Requests.Request, Standing.Standing, Faults.fault_met, Turns.was_skipped, Turns.can_ask, Turns.judged, Turns.manner, Turns.changed, Turns.left_by, Turns.next}
+use Rattle.law.specs.{Requests.Opening, Requests.Request, Standing.Standing, Faults.fault_met, Turns.was_skipped, Requests.can_ask, Turns.judged, Turns.manner, Turns.changed, Turns.left_by, Turns.next}
 
 module _ (form : Meaning) (o : Opening) (s : Standing) (r : Request) where
   -- what can be asked is judged by the fault that it meets

@@ -2,10 +2,10 @@
 use Rattle.std.specs.{List.list_all, Option.option_map}
 use Rattle.std.proofs.Common.{◌≡◌, ℕ, Bool, true, false, cond, not, ◌||◌, eqb, ltb, List, [], ◌∷◌, Some, None, Option, refl}
 use Rattle.std.proofs.lemmas.Bool.{and_from}
-use Rattle.packets.specs.declared.faults.ByteFault.{ByteFault, TheVariants.Malformed}
+use Rattle.packets.specs.declared.faults.ByteFault.{TheVariants.Malformed}
 use Rattle.forms.specs.{declared.Contract.Contract, Meaning.Meaning}
-use Rattle.settlement.specs.{declared.faults.BookFault.BookFault, declared.faults.BookFault.TheVariants.Posting, declared.faults.BookFault.TheVariants.OutsideBook, declared.faults.BookFault.TheVariants.NoCarrier, declared.faults.BookFault.TheVariants.FreeHour, declared.faults.BookFault.TheVariants.MissingHour, declared.faults.BookFault.TheVariants.NoPowerCarrier, declared.faults.BookFault.TheVariants.ContractNumber, declared.faults.BookFault.TheVariants.ContractTerms, declared.faults.BookFault.TheVariants.CoveredHour, declared.faults.LineFault.LineFault, declared.faults.LineFault.TheVariants.Packet, declared.faults.LineFault.TheVariants.HourOutside, declared.faults.LineFault.TheVariants.OutsideLimit, declared.faults.LineFault.TheVariants.BreaksRule, declared.faults.LineFault.TheVariants.TooMuchTogether, ContractFaults.taken_fault, ContractFaults.vacant_fault, ContractFaults.covered_fault, ContractFaults.covered_in, ContractFaults.place_at, ContractFaults.contract_faults, ContractFaults.contract_fault, Faults.number_of, Faults.met_if, Faults.first_met, Faults.of_posting, PostingFaults.hour_fault, PostingFaults.posting_faults}
-use Rattle.law.specs.{Law.unspoilt, Requests.Opening, Requests.count_in, Requests.hours_in, Requests.Request, Requests.posting, Requests.unread, Requests.withdrawal, Requests.entering, Requests.cancelling, Requests.closing, Requests.statement, Standing.Standing, Standing.stands, Standing.setting_in, Faults.closing_faults, Faults.fault_met, Turns.was_skipped, Turns.can_ask, Turns.judged, Turns.next, Replies.done, Replies.told_as, Replies.replies_from}
+use Rattle.settlement.specs.{declared.faults.BookFault.BookFault, declared.faults.BookFault.TheVariants.OutsideBook, declared.faults.BookFault.TheVariants.NoCarrier, declared.faults.BookFault.TheVariants.FreeHour, declared.faults.BookFault.TheVariants.MissingHour, declared.faults.BookFault.TheVariants.NoPowerCarrier, declared.faults.BookFault.TheVariants.ContractNumber, declared.faults.BookFault.TheVariants.ContractTerms, declared.faults.BookFault.TheVariants.CoveredHour, declared.faults.LineFault.LineFault, declared.faults.LineFault.TheVariants.Packet, ContractFaults.taken_fault, ContractFaults.vacant_fault, ContractFaults.covered_fault, ContractFaults.covered_in, ContractFaults.place_at, ContractFaults.contract_faults, ContractFaults.contract_fault, Faults.number_of, Faults.met_if, Faults.first_met, Faults.of_posting, PostingFaults.hour_fault, PostingFaults.posting_faults}
+use Rattle.law.specs.{Law.unspoilt, Requests.Opening, Requests.count_in, Requests.hours_in, Requests.Request, Requests.posting, Requests.unread, Requests.withdrawal, Requests.entering, Requests.cancelling, Requests.closing, Requests.statement, Standing.Standing, Standing.stands, Standing.setting_in, Faults.closing_faults, Faults.fault_met, Turns.was_skipped, Requests.can_ask, Turns.judged, Turns.next, Replies.done, Replies.told_as, Replies.replies_from}
 
 -- a row of a table: no fault, or one of another number
 abbrev fine : Option BookFault → Bool
@@ -25,26 +25,15 @@ told_of : {X : Type 0} (f : X → BookFault) (place : Option X) → ((x : X) →
 told_of f None each = record { is = refl }
 told_of f (Some x) each = each x
 
--- a fault of bytes
-of_bytes : (fault : ByteFault) → Fine (Some (Posting (Packet fault)))
-of_bytes (Malformed place) = record { is = refl }
-
 -- a fault of a posting's own figures
 own : (fault : Option LineFault) → Fine (of_posting fault)
-own None = record { is = refl }
-own (Some (Packet fault)) = of_bytes fault
-own (Some (HourOutside hour)) = record { is = refl }
-own (Some (OutsideLimit place)) = record { is = refl }
-own (Some (BreaksRule place)) = record { is = refl }
-own (Some TooMuchTogether) = record { is = refl }
+own (Some (Packet (Malformed place))) = record { is = refl }
+own _ = record { is = refl }
 
 -- a covered hour that stands
-covered : (standing : ℕ → Bool) (c : Contract) → Fine (covered_fault standing c)
-covered standing c = told_of (λ hour. CoveredHour hour) _ (λ hour. record { is = refl })
-
-covered_in_lem : (standing : ℕ → Bool) (c : Option Contract) → Fine (covered_in standing c)
-covered_in_lem standing None = record { is = refl }
-covered_in_lem standing (Some c) = covered standing c
+covered : (standing : ℕ → Bool) (c : Option Contract) → Fine (covered_in standing c)
+covered standing None = record { is = refl }
+covered standing (Some c) = told_of (λ hour. CoveredHour hour) _ (λ hour. record { is = refl })
 
 -- the first of rows that are fine
 abbrev AllFine : List (Option BookFault) → Type 0
@@ -60,16 +49,16 @@ module _ (form : Meaning) (o : Opening) where
   -- no request meets a fault of a stored figure
   fault_fine : (s : Standing) (r : Request) → Fine (fault_met form o s r)
   fault_fine s (posting p) = first_of (posting_faults (setting_in form o s) p) (own _, (met _ NoCarrier (record { is = refl }), tt))
-  fault_fine s (unread fault) = of_bytes fault
+  fault_fine s (unread fault) = own (Some (Packet fault))
   fault_fine s (withdrawal hour) =
       first_of (of_posting (hour_fault (hours_in o) hour) ∷ met_if (not (stands s hour)) (FreeHour hour) ∷ []) (own _, (met _ (FreeHour hour) (record { is = refl }), tt))
   fault_fine s (entering number c) =
       let terms = λ (test : Bool). met test ContractTerms (record { is = refl }) in
       first_of (taken_fault s.places number ∷ contract_fault (setting_in form o s) c ∷ covered_fault (stands s) c ∷ [])
-      (met _ ContractNumber (record { is = refl }), (first_of (contract_faults (setting_in form o s) c) (terms _, (terms _, (terms _, tt))), (covered (stands s) c, tt)))
+      (met _ ContractNumber (record { is = refl }), (first_of (contract_faults (setting_in form o s) c) (terms _, (terms _, (terms _, tt))), (covered (stands s) (Some c), tt)))
   fault_fine s (cancelling number) =
       let place = place_at s.places number in
-      first_of (vacant_fault s.places number ∷ covered_in (stands s) place ∷ []) (met _ ContractNumber (record { is = refl }), (covered_in_lem (stands s) place, tt))
+      first_of (vacant_fault s.places number ∷ covered_in (stands s) place ∷ []) (met _ ContractNumber (record { is = refl }), (covered (stands s) place, tt))
   fault_fine s closing =
       first_of (closing_faults o s)
       (told_of (λ hour. MissingHour hour) _ (λ hour. record { is = refl }), (met _ NoPowerCarrier (record { is = refl }), tt))

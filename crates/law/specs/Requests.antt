@@ -3,7 +3,7 @@ use Rattle.std.specs.Prelude.{ℕ, Bool, true, false, if◌then◌else◌, List,
 use Rattle.calendar.specs.{declared.calendars.Calendar.Calendar, Limits.hours_of}
 use Rattle.packets.specs.declared.faults.ByteFault.{ByteFault}
 use Rattle.forms.specs.declared.Contract.{Contract}
-use Rattle.settlement.specs.{declared.agents.Agent.Agent, Posting.Posting}
+use Rattle.settlement.specs.{declared.agents.Agent.Agent, declared.states.State.State, declared.states.State.TheVariants.Open, declared.states.State.TheVariants.Closed, Posting.Posting}
 
 -- what a book is opened with: its agents, and the days of its month, which follow a calendar
 pub record Opening : Type 0 where
@@ -30,6 +30,12 @@ pub data Request : Type 0 where
   cancelling : (number : ℕ) → Request
   closing : Request
   statement : (agent : ℕ) → Request
+
+-- whether a host has a way to ask it: of an open month anything, of a closed one only statements
+abbrev pub can_ask : State → Request → Bool
+can_ask Open _ = true
+can_ask Closed (statement agent) = true
+can_ask Closed _ = false
 
 -- the requests that are about contracts
 abbrev pub about_contracts : Request → Bool

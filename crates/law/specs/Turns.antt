@@ -1,14 +1,8 @@
 -- How a request is answered, and what then stands. Assumes nothing.
-use Rattle.std.specs.Prelude.{Bool, true, false, if◌then◌else◌, List, [], ◌∷◌, Some, None, Option}
+use Rattle.std.specs.Prelude.{if◌then◌else◌, List, [], ◌∷◌, Some, None, Option}
 use Rattle.forms.specs.Meaning.{Meaning}
-use Rattle.settlement.specs.declared.{faults.BookFault.BookFault, states.State.State, states.State.TheVariants.Open, states.State.TheVariants.Closed}
-use Rattle.law.specs.{Requests.Opening, Requests.Request, Requests.posting, Requests.withdrawal, Requests.entering, Requests.cancelling, Requests.closing, Requests.statement, Standing.Standing, Standing.nothing_stands, Standing.standing_with, Standing.placed_with, Faults.fault_met}
-
--- whether a host has a way to ask it: of an open month anything, of a closed one only statements
-abbrev pub can_ask : State → Request → Bool
-can_ask Open _ = true
-can_ask Closed (statement agent) = true
-can_ask Closed _ = false
+use Rattle.settlement.specs.declared.{faults.BookFault.BookFault, states.State.TheVariants.Closed}
+use Rattle.law.specs.{Requests.Opening, Requests.Request, Requests.posting, Requests.withdrawal, Requests.entering, Requests.cancelling, Requests.closing, Requests.can_ask, Standing.Standing, Standing.nothing_stands, Standing.standing_with, Standing.placed_with, Faults.fault_met}
 
 -- the manner in which a request is answered: it is done, or refused for a fault, or skipped
 pub data Manner : Type 0 where

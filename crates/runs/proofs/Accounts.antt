@@ -1,13 +1,13 @@
 -- What an account comes to when one hour is written anew, and when its power line is charged. Assumes nothing.
-use Rattle.std.proofs.Common.{◌≡◌, ℕ, ◌+◌, ◌-◌, ◌%◌, ◌^◌, ◌<◌, eqb, ℤ, pos, Option, sym, ap, ◌∙◌, arith}
+use Rattle.std.proofs.Common.{◌≡◌, ℕ, ◌+◌, ◌-◌, ◌%◌, ◌^◌, ◌<◌, eqb, ℤ, Option, sym, ap, ◌∙◌, arith}
 use Rattle.std.proofs.lemmas.Bool.{cond-false, ne_eqb}
-use Rattle.tally.specs.{declared.money.MoneyLine.TheVariants.Power, Energy.energy_of, Energy.no_energy, Energy.energy_joined, Energy.energy_undone, EnergyLaws.energy_same, EnergyLaws.energy_lawful, Lines.Lines, Lines.no_lines, Lines.lines_joined, Lines.lines_undone, Lines.alone, LinesLaws.lines_lawful, LinesLaws.lines_cancel, Money.money_of, Money.money_joined, Money.money_undone, MoneyLaws.money_of_joined, MoneyLaws.money_of_undone}
+use Rattle.tally.specs.{declared.money.MoneyLine.TheVariants.Power, Energy.energy_of, Energy.no_energy, Energy.energy_joined, Energy.energy_undone, EnergyLaws.energy_same, EnergyLaws.energy_lawful, Lines.Lines, Lines.lines_joined, Lines.lines_undone, Lines.alone, LinesLaws.lines_lawful, LinesLaws.lines_cancel, Money.money_of, Money.money_joined, Money.money_undone, MoneyLaws.money_of_joined, MoneyLaws.money_of_undone, Sums.sum_to}
 use Rattle.tally.proofs.{Lines.alone-none, Numbers.sum_to_change, PairLaws.pair_same, Sums.total_over_changed, Totals.right_identity}
 use Rattle.forms.specs.Meaning.{Meaning}
-use Rattle.settlement.specs.{declared.states.State.State, declared.states.State.TheVariants.Open, Holdings.holding_joined, Holdings.entry_of, Holdings.power_points, Posting.Posting, Power.power_line}
+use Rattle.settlement.specs.{declared.states.State.TheVariants.Open, Holdings.holding_joined, Holdings.entry_of, Holdings.power_points, Posting.Posting, Power.power_line}
 use Rattle.book.specs.Rewriting.{account_with}
-use Rattle.law.specs.{Faults.withdrawn_in, Faults.withdrawn_of, Requests.Opening, Requests.hours_in, Requests.closing, Standing.Standing, Standing.standing_with, Standing.setting_in, Turns.changed, Worked.figures_from, Worked.figures_at, Worked.lines_between, Worked.agent_lines, Worked.power_in, Worked.power_of, Worked.injected_in, Worked.injected_of}
-use Rattle.law.proofs.Bounds.{figures_injected, figures_withdrawn}
+use Rattle.law.specs.{Faults.withdrawn_in, Faults.withdrawn_of, Requests.Opening, Requests.hours_in, Requests.closing, Standing.Standing, Standing.standing_with, Standing.setting_in, Turns.changed, Worked.figures_from, Worked.figures_at, Worked.lines_between, Worked.agent_lines, Worked.power_in, Worked.power_of, Worked.injected_in}
+use Rattle.law.proofs.Bounds.{figures_energies}
 use Rattle.runs.proofs.Holds.{account_of}
 
 -- ---- lines
@@ -79,32 +79,18 @@ module _ (form : Meaning) (o : Opening) (s : Standing) (is : s.state ≡ Open) (
       ∙ swapped before new power
       ∙ ap (λ t. lines_joined (lines_joined before t) new) (sym power_same)
 
-  -- and so what was injected
-  injected_changed : injected_of o s' i + (figures_at form o s i hour).injected ≡ injected_of o s i + (figures_at form o s' i hour).injected
-  injected_changed =
-      omega (
-        arith,
-        sum_to_change (hours_in o) (λ h. injected_in i (s.posted h)) (λ h. injected_in i (s'.posted h)) hour within (λ h below apart. ap (injected_in i) (elsewhere h apart)),
-        figures_injected (setting_in form o s) i (s.posted hour),
-        figures_injected (setting_in form o s') i (s'.posted hour),
-      )
-
-  -- and what was withdrawn
-  withdrawn_changed : withdrawn_of o s' i + (figures_at form o s i hour).withdrawn ≡ withdrawn_of o s i + (figures_at form o s' i hour).withdrawn
-  withdrawn_changed =
-      omega (
-        arith,
-        sum_to_change (hours_in o) (λ h. withdrawn_in i (s.posted h)) (λ h. withdrawn_in i (s'.posted h)) hour within (λ h below apart. ap (withdrawn_in i) (elsewhere h apart)),
-        figures_withdrawn (setting_in form o s) i (s.posted hour),
-        figures_withdrawn (setting_in form o s') i (s'.posted hour),
-      )
+  -- and so an energy of the month
+  energy_even : (of : Option Posting → ℕ) → sum_to (hours_in o) (λ h. of (s'.posted h)) + of (s.posted hour) ≡ sum_to (hours_in o) (λ h. of (s.posted h)) + of (s'.posted hour)
+  energy_even of = sum_to_change (hours_in o) (λ h. of (s.posted h)) (λ h. of (s'.posted h)) hour within (λ h below apart. ap of (elsewhere h apart))
 
   -- an account less the old entry and with the new one is that of what stands now
   pub account-changed : account_with (account_of form o s i) (entry_of (figures_at form o s i hour)) (entry_of (figures_at form o s' i hour)) ≡ account_of form o s' i
   account-changed =
+      let old = figures_energies (setting_in form o s) i (s.posted hour) in
+      let new = figures_energies (setting_in form o s') i (s'.posted hour) in
       pair_same _ _
       (money_changed (agent_lines form o s i) (agent_lines form o s' i) (figures_at form o s i hour).lines (figures_at form o s' i hour).lines lines_even)
-      (energy_changed _ _ _ _ _ _ _ _ injected_changed withdrawn_changed)
+      (energy_changed _ _ _ _ _ _ _ _ (omega (arith, energy_even (injected_in i))) (omega (arith, energy_even (withdrawn_in i))))
 
 -- ---- the power line
 

@@ -1,27 +1,19 @@
 -- A book that was opened and has heard any list of requests: its memory keeps its limits, and it was run as the rules say. Assumes nothing.
-use Rattle.std.proofs.Common.{◌≡◌, ℕ, ◌*◌, ◌<◌, ◌≤◌, Bool, true, false, cond, not, ◌||◌, ltb, leb, List, [], ◌∷◌, map, length, replicate, None, Option, sym, refl, ap, ◌∙◌, subst, arith, w64}
+use Rattle.std.proofs.Common.{◌≡◌, ℕ, ◌*◌, ◌<◌, ◌≤◌, Bool, true, not, ◌||◌, leb, List, [], ◌∷◌, map, length, None, Option, sym, refl, ap, ◌∙◌, subst, arith, w64}
 use mathlib.Core.List.{map-map}
 use Rattle.std.specs.{List.range_with_len, List.list_all, Int.int_wrap}
-use Rattle.std.proofs.lemmas.{Int.int_wrap_fits, List.FromFn.length-map-range_with_len, List.FromFn.get_or-map-range_with_len, Bool.and_parts, Bool.or_parts, Bool.not-false, Bool.leb-true, Bool.ltb-false, Bool.eqb-true, Bool.eq-eqb, Bool.le-ltb}
+use Rattle.std.proofs.lemmas.{Int.int_wrap_fits, List.FromFn.length-map-range_with_len, List.FromFn.get_or-map-range_with_len, Bool.and_parts, Bool.or_parts, Bool.not-false, Bool.leb-true, Bool.eqb-true, Bool.eq-eqb, Bool.le-ltb}
 use Rattle.forms.specs.{Meaning.Meaning, Meaning.Keeps, Limits.most_agents, Limits.most_contracts}
-use Rattle.settlement.specs.{declared.faults.BookFault.BookFault, declared.faults.BookFault.TheVariants.WrongSize, declared.faults.BookFault.TheVariants.StoredOutside, declared.faults.BookFault.TheVariants.OutsideBook, Agents.agent_fits, Faults.met_if, Faults.first_met, Holdings.no_holding, declared.states.State.TheVariants.Open}
+use Rattle.settlement.specs.{declared.faults.BookFault.BookFault, declared.faults.BookFault.TheVariants.WrongSize, declared.faults.BookFault.TheVariants.OutsideBook, Agents.agent_fits, Faults.met_if, Faults.first_met, declared.states.State.TheVariants.Open}
 use Rattle.tally.specs.Sums.{sum_to_ℤ}
 use Rattle.tally.proofs.Numbers.{sum_to_ℤ_same, sum_to_ℤ_abs, fits_abs, map_counting_same}
 use Rattle.calendar.specs.{Calendar.calendar_fits, Limits.hours_of, Limits.most_days}
-use Rattle.settlement.proofs.FaultTables.{unmet, NoneMet, first_met_none}
-use Rattle.law.specs.{Law.Book, Law.Ran, Requests.Opening, Requests.count_in, Requests.hours_in, Requests.Request, Requests.without_contracts, Requests.told_without, Limits.most_balance, Replies.Reply, Replies.replies_from, Standing.Standing, Standing.nothing_stands, Turns.after, Worked.worked, Worked.agent_balance, Worked.balances_after}
+use Rattle.settlement.proofs.FaultTables.{unmet, kept as kept_row, NoneMet, first_met_none}
+use Rattle.law.specs.{Law.Book, Law.Ran, Requests.Opening, Requests.count_in, Requests.hours_in, Requests.Request, Limits.most_balance, Replies.replies_from, Standing.Standing, Standing.nothing_stands, Turns.after, Worked.worked, Worked.agent_balance, Worked.balances_after}
 use Rattle.law.proofs.{Bounds.balance_abs, Sound.Opened, Sound.Sound, Soundness.sound_none, Soundness.sound_after}
-use Rattle.book.specs.{declared.months.MonthFigures.MonthFigures, declared.statements.Statement.Statement, Memory.Memory, Memory.sized, Memory.stored_fits, Memory.size_fault, Memory.memory_fault, Memory.memory_of, Months.size_known, Months.month_figures, Opening.open_fault, Opening.emptied, Statements.statement_in}
+use Rattle.book.specs.{declared.months.MonthFigures.MonthFigures, declared.statements.Statement.Statement, Memory.Memory, Memory.sized, Memory.size_fault, Memory.memory_fault, Months.size_known, Months.month_figures, Opening.open_fault, Opening.emptied, Statements.statement_in}
 use Rattle.runs.specs.{Reading.opening_of, Reading.reply_of, Reading.worked_in, Runs.Kept, Runs.kept_of, Runs.answers_to, Runs.kept_after, Runs.no_statement, Runs.balance_at, Runs.statements_in, Runs.statements_fault, Runs.together}
-use Rattle.runs.proofs.{Fits.held_fits, Holds.figures_of_opening, Holds.Holds, Keeps.holds_emptied, Run.run_told, Run.run_holds, Run.run_told_without, Run.run_holds_without, Statements.statements_step}
-
--- what a run hears of a list: all of it, or all but what is about contracts
-abbrev pub heard_by : Bool → List Request → List Request
-heard_by contracts requests = cond contracts requests (without_contracts requests)
-
--- what it was told
-abbrev pub told_by : Bool → List Request → List Reply → List Reply
-told_by contracts requests told = cond contracts told (told_without requests told)
+use Rattle.runs.proofs.{Fits.is_sized, Fits.no_memory_fault, Holds.figures_of_opening, Holds.Holds, Keeps.holds_emptied, Run.heard_by, Run.told_by, Run.RunFrom, Run.run_from, Statements.statements_step}
 
 -- ---- the opening
 
@@ -34,20 +26,18 @@ module _ (f : MonthFigures) (m : Memory) (opens : open_fault f m ≡ None) where
   abbrev rows : List (Option BookFault)
   rows = met_if (not (size_known f)) OutsideBook ∷ size_fault f m ∷ met_if (not (calendar_fits f.calendar) || not (list_all agent_fits m.agents)) OutsideBook ∷ []
 
-  -- none was met
   none_met : NoneMet rows
   none_met = first_met_none rows opens
 
   pub opens_sized : sized f m ≡ true
-  opens_sized = not-false _ (unmet _ _ (sym none_met.1.0))
+  opens_sized = kept_row _ _ none_met.1.0
 
   pub agents_long : count_in opening ≡ f.agents
   agents_long = eqb-true _ _ (and_parts _ _ opens_sized).0
 
   pub is_opened : Opened opening
   is_opened =
-      let known = not-false _ (unmet _ _ (sym none_met.0)) in
-      let few = and_parts (leb 1 f.agents) _ known in
+      let few = and_parts (leb 1 f.agents) _ (kept_row _ _ none_met.0) in
       let most = and_parts (leb f.agents most_agents) _ few.1 in
       let days = and_parts (leb 1 f.days) _ most.1 in
       let last = or_parts (not (calendar_fits f.calendar)) (not (list_all agent_fits m.agents)) (unmet _ _ (sym none_met.1.1.0)) in
@@ -72,18 +62,6 @@ module _ (f : MonthFigures) (m : Memory) (opens : open_fault f m ≡ None) where
       let d = and_parts _ _ c.1 in
       (eqb-true _ _ b.0, eqb-true _ _ c.0, eqb-true _ _ d.0, eqb-true _ _ d.1)
 
-  pub accounts_sized : length m.accounts ≡ f.agents
-  accounts_sized = sizes.0
-
-  pub contracts_sized : length m.contracts ≡ most_contracts
-  contracts_sized = sizes.1
-
-  pub marks_sized : length m.marks ≡ hours_of f.days
-  marks_sized = sizes.2
-
-  pub entries_sized : length m.entries ≡ f.agents * hours_of f.days
-  entries_sized = sizes.3
-
   -- memory of the same agents and the same size can be opened as well, and is emptied to the same
   pub opens_same : (m' : Memory) → m'.agents ≡ m.agents → sized f m' ≡ true → open_fault f m' ≡ None
   opens_same m' agents size =
@@ -93,11 +71,9 @@ module _ (f : MonthFigures) (m : Memory) (opens : open_fault f m ≡ None) where
 module _ (f : MonthFigures) (m m' : Memory) (opens : open_fault f m ≡ None) (opens' : open_fault f m' ≡ None) (agents : m'.agents ≡ m.agents) where
   pub emptied_same : emptied m' ≡ emptied m
   emptied_same =
-      let accounts = accounts_sized f m' opens' ∙ sym (accounts_sized f m opens) in
-      let contracts = contracts_sized f m' opens' ∙ sym (contracts_sized f m opens) in
-      let marks = marks_sized f m' opens' ∙ sym (marks_sized f m opens) in
-      let entries = entries_sized f m' opens' ∙ sym (entries_sized f m opens) in
-      λ t. memory_of (agents t) (replicate (accounts t) no_holding) (replicate (contracts t) None) (replicate (marks t) 0) (replicate (entries t) no_holding)
+      let sizes' = sizes f m' opens' in
+      let sizes = sizes f m opens in
+      cc
 
 -- ---- the run
 
@@ -113,8 +89,8 @@ module _ (form : Meaning) (keeps : Keeps form) (f : MonthFigures) (m : Memory) (
   -- it holds that nothing stands
   start_holds : Holds form o nothing_stands start
   start_holds =
-      holds_emptied form o m refl (accounts_sized f m opens ∙ sym (agents_long f m opens)) (contracts_sized f m opens) (marks_sized f m opens)
-      (entries_sized f m opens ∙ ap (λ n. n * hours_in o) (sym (agents_long f m opens)))
+      let long = sizes f m opens in
+      holds_emptied form o m refl (long.0 ∙ sym (agents_long f m opens)) long.1 long.2 (long.3 ∙ ap (λ n. n * hours_in o) (sym (agents_long f m opens)))
 
   module _ (contracts : Bool) (requests : List Request) where
     -- what stands at the end
@@ -129,26 +105,17 @@ module _ (form : Meaning) (keeps : Keeps form) (f : MonthFigures) (m : Memory) (
     standing_sound : Sound form o standing
     standing_sound = sound_after form o (heard_by contracts requests)
 
-    -- the book holds it, whether it heard contracts or not
-    holds_by : (by : Bool) → Holds form o (after form o (heard_by by requests)) (kept_after by form (figures_of_opening o) requests start)
-    holds_by true = run_holds form keeps o (is_opened f m opens) nothing_stands (sound_none form o) start start_holds requests
-    holds_by false = run_holds_without form keeps o (is_opened f m opens) nothing_stands (sound_none form o) start start_holds requests
+    -- the run from its opening
+    run : RunFrom form o contracts nothing_stands start requests
+    run = run_from form keeps o (is_opened f m opens) contracts nothing_stands (sound_none form o) start start_holds requests
 
-    -- so it does with the figures that it was opened with
+    -- the book holds it
     pub kept_holds : Holds form o standing kept
-    kept_holds = subst (λ g. Holds form o standing (kept_after contracts form g requests start)) (same_figures f m opens) (holds_by contracts)
+    kept_holds = subst (λ g. Holds form o standing (kept_after contracts form g requests start)) (same_figures f m opens) run.holds
 
-    -- so its memory has its size and keeps every limit
-    kept_fits : (sized (figures_of_opening o) kept.memory ≡ true) × (stored_fits form (figures_of_opening o) kept.memory ≡ true)
-    kept_fits = held_fits form keeps o (is_opened f m opens) standing standing_sound kept.memory kept_holds.memory
-
-    -- its size
-    pub kept_sized : sized f kept.memory ≡ true
-    kept_sized = ap (λ g. sized g kept.memory) (sym (same_figures f m opens)) ∙ kept_fits.0
-
-    -- its limits
-    pub kept_stored : stored_fits form f kept.memory ≡ true
-    kept_stored = ap (λ g. stored_fits form g kept.memory) (sym (same_figures f m opens)) ∙ kept_fits.1
+    -- so its memory has its size
+    kept_sized : sized f kept.memory ≡ true
+    kept_sized = ap (λ g. sized g kept.memory) (sym (same_figures f m opens)) ∙ is_sized form keeps o (is_opened f m opens) standing standing_sound kept.memory kept_holds.memory
 
     -- its memory can be opened anew
     pub kept_opens : open_fault f kept.memory ≡ None
@@ -158,9 +125,11 @@ module _ (form : Meaning) (keeps : Keeps form) (f : MonthFigures) (m : Memory) (
     pub kept_emptied : emptied kept.memory ≡ emptied m
     kept_emptied = emptied_same f m kept.memory opens kept_opens kept_holds.memory.agents
 
-    -- and is met with no fault
+    -- and is met with no fault, as it keeps every limit
     kept_memory : memory_fault form f kept.memory ≡ None
-    kept_memory = λ t. first_met (met_if (not (kept_sized t)) WrongSize ∷ met_if (not (kept_stored t)) StoredOutside ∷ [])
+    kept_memory =
+        ap (λ g. memory_fault form g kept.memory) (sym (same_figures f m opens))
+        ∙ no_memory_fault form keeps o (is_opened f m opens) standing standing_sound kept.memory kept_holds.memory
 
     -- and gives every agent's statement, where there is a place for each
     pub kept_states : (places : ℕ) → places ≡ length m.agents → statements_fault form f places kept.memory ≡ None
@@ -171,14 +140,9 @@ module _ (form : Meaning) (keeps : Keeps form) (f : MonthFigures) (m : Memory) (
 
     -- ---- what it was told, its statements and its balances
 
-    -- what it was told is worked from what stands, whether it heard contracts or not
-    told_by_lem : (by : Bool) → told_by by requests (map reply_of (answers_to by form (figures_of_opening o) requests start)) ≡ replies_from form o nothing_stands (heard_by by requests)
-    told_by_lem true = run_told form keeps o (is_opened f m opens) nothing_stands (sound_none form o) start start_holds requests
-    told_by_lem false = run_told_without form keeps o (is_opened f m opens) nothing_stands (sound_none form o) start start_holds requests
-
-    -- so it is with the figures that it was opened with
+    -- what it was told is worked from what stands
     pub kept_told : told_by contracts requests (map reply_of (answers_to contracts form f requests start)) ≡ replies_from form o nothing_stands (heard_by contracts requests)
-    kept_told = ap (λ g. told_by contracts requests (map reply_of (answers_to contracts form g requests start))) (sym (same_figures f m opens)) ∙ told_by_lem contracts
+    kept_told = ap (λ g. told_by contracts requests (map reply_of (answers_to contracts form g requests start))) (sym (same_figures f m opens)) ∙ run.told
 
     -- the statements at the end
     abbrev pub statements : List Statement
@@ -226,8 +190,4 @@ module _ (form : Meaning) (keeps : Keeps form) (f : MonthFigures) (m : Memory) (
 
     -- was run as the rules say
     pub kept_ran : Ran form o (heard_by contracts requests) book
-    kept_ran = record {
-      answers = kept_told;
-      stands = statements_so;
-      together = together_so;
-    }
+    kept_ran = record { answers = kept_told; stands = statements_so; together = together_so }

@@ -1,14 +1,14 @@
 -- Memory that holds what stands: emptied, with an hour written anew, with a contract place changed, and with power charged. Assumes nothing.
 use Rattle.std.proofs.Common.{◌≡◌, ℕ, zero, suc, ◌+◌, ◌-◌, ◌*◌, ◌<◌, ◌≤◌, Bool, true, false, cond, not, eqb, leb, List, [], ◌∷◌, length, get_or, set, replicate, ℤ, pos, ◌+ℤ◌, ◌-ℤ◌, is_some, Some, None, Option, sym, refl, ap, ◌∙◌, ⊎_elim, mod-eq_of_lt, arith}
-use Rattle.std.proofs.lemmas.{Nat.mul-add-lt, List.FromFn.length-map-range_with_len, List.FromFn.get_or-map-range_with_len, List.length-replicate, List.get_or-replicate, List.length-set, List.get_or-set_same, List.get_or-set_other, Bool.cases_eq, Bool.cond-true, Bool.cond-false, Bool.cond_both, Bool.eq-eqb, Bool.ne_eqb, Bool.leb-true, Bool.eqb-true, Bool.and_parts, Bool.both_ways, Bool.not-true}
-use Rattle.tally.specs.{declared.money.MoneyLine.TheVariants.Power, Energy.energy_of, Energy.no_energy, Lines.Lines, Lines.no_lines, Lines.lines_joined, Lines.alone, LinesLaws.lines_lawful, Money.money_of, Money.no_money, Pair.pair_of, Sums.int_sum_by}
+use Rattle.std.proofs.lemmas.{Nat.mul-add-lt, List.FromFn.length-map-range_with_len, List.FromFn.get_or-map-range_with_len, List.length-replicate, List.get_or-replicate, List.length-set, List.get_or-set_same, List.get_or-set_other, Bool.cases_eq, Bool.cond-true, Bool.cond-false, Bool.cond_both, Bool.eq-eqb, Bool.ne_eqb, Bool.leb-true, Bool.and_parts, Bool.both_ways, Bool.not-true}
+use Rattle.tally.specs.{declared.money.MoneyLine.TheVariants.Power, Energy.energy_of, Lines.no_lines, Lines.lines_joined, Lines.alone, LinesLaws.lines_lawful, Money.money_of, Pair.pair_of, Sums.int_sum_by}
 use Rattle.tally.proofs.{Failing.each_passed, Numbers.sum_to_const_zero, Numbers.map_counting_same, Sums.total_over_same, Sums.total_over_none}
 use Rattle.valuation.specs.Sharing.{part_of}
 use Rattle.forms.specs.{declared.Contract.Contract, Limits.most_contracts, Meaning.Meaning, Meaning.Keeps, Parties.legs_by_party, Roles.carries}
 use Rattle.settlement.specs.{declared.agents.Agent.Agent, declared.states.State.TheVariants.Open, Agents.agent_at, Agents.counted, ContractFaults.covers, ContractFaults.covered_in, ContractFaults.place_at, Holdings.Holding, Holdings.no_holding, Holdings.holding_joined, Holdings.withdrawn_on, Holdings.entry_of, Holdings.power_points, Hour.caused_sum, Hour.carried_by, Hour.Figures, Hour.figures_with, Legs.legs_of, Legs.given_to, Legs.given_in, Legs.is_number, Posting.Posting, Posting.line_at, Power.power_credit, Power.power_due, Power.power_weights, Setting.Setting}
 use Rattle.settlement.proofs.FaultTables.{mapped_none}
 use Rattle.book.specs.{Closing.charged, Entering.placed, Memory.Memory, Opening.emptied, Rewriting.entry_place, Rewriting.account_with, Rewriting.rewritten}
-use Rattle.law.specs.{Faults.withdrawn_of, Requests.Opening, Requests.count_in, Requests.hours_in, Requests.closing, Standing.Standing, Standing.nothing_stands, Standing.standing_with, Standing.placed_with, Standing.stands, Standing.setting_in, Turns.changed, Worked.figures_from, Worked.figures_at, Worked.lines_between, Worked.power_of, Worked.injected_of}
+use Rattle.law.specs.{Faults.withdrawn_of, Requests.Opening, Requests.count_in, Requests.hours_in, Requests.closing, Standing.Standing, Standing.nothing_stands, Standing.standing_with, Standing.placed_with, Standing.stands, Standing.setting_in, Turns.changed, Worked.figures_from, Worked.figures_at, Worked.power_of, Worked.injected_of}
 use Rattle.law.proofs.{Bounds.withdrawn_of_le, Sound.Opened, Sound.Sound}
 use Rattle.runs.specs.Runs.{kept_of}
 use Rattle.runs.proofs.{Accounts.account-changed, Accounts.account_charged, Columns.entry_with, Columns.length-entries_with, Columns.account_with_lem, Columns.length-accounts_with, Holds.Held, Holds.Holds, Holds.mark_for, Holds.account_of}
@@ -62,28 +62,26 @@ module _ (form : Meaning) (o : Opening) (s : Standing) (m : Memory) (held : Held
 
 -- ---- nothing stands
 
--- memory emptied holds an opening, at which nothing stands
-pub held_emptied : (form : Meaning) (o : Opening) (m : Memory) → m.agents ≡ o.agents → length m.accounts ≡ count_in o → length m.contracts ≡ most_contracts →
-    length m.marks ≡ hours_in o → length m.entries ≡ count_in o * hours_in o → Held form o nothing_stands (emptied m)
-held_emptied form o m agents accounts contracts marks entries = record {
-  agents = agents;
-  accounts_long = length-replicate (length m.accounts) no_holding ∙ accounts;
-  marks_long = length-replicate (length m.marks) 0 ∙ marks;
-  entries_long = length-replicate (length m.entries) no_holding ∙ entries;
-  contracts = ap (λ n. replicate n None) contracts;
-  marks = λ hour within. get_or-replicate (length m.marks) hour 0 0 (omega arith);
-  entries = λ i hour agent within.
-      get_or-replicate (length m.entries) (entry_place (hours_in o) i hour) no_holding no_holding (omega (arith, mul-add-lt i (hours_in o) hour (count_in o) agent within));
-  accounts = λ i agent.
-      get_or-replicate (length m.accounts) i no_holding no_holding (omega arith)
-      ∙ (λ t. pair_of (money_of (lines_joined (sym (total_over_none lines_lawful 0 (hours_in o) (λ hour. no_lines) (λ k low below. refl)) t) no_lines))
-      (energy_of (sym (sum_to_const_zero (hours_in o)) t) (sym (sum_to_const_zero (hours_in o)) t)));
-}
-
--- so does a book then
+-- a book whose memory is emptied holds an opening, at which nothing stands
 pub holds_emptied : (form : Meaning) (o : Opening) (m : Memory) → m.agents ≡ o.agents → length m.accounts ≡ count_in o → length m.contracts ≡ most_contracts →
     length m.marks ≡ hours_in o → length m.entries ≡ count_in o * hours_in o → Holds form o nothing_stands (kept_of Open (emptied m))
-holds_emptied form o m agents accounts contracts marks entries = record { state = refl; memory = held_emptied form o m agents accounts contracts marks entries }
+holds_emptied form o m agents accounts contracts marks entries = record {
+  state = refl;
+  memory = record {
+    agents = agents;
+    accounts_long = length-replicate (length m.accounts) no_holding ∙ accounts;
+    marks_long = length-replicate (length m.marks) 0 ∙ marks;
+    entries_long = length-replicate (length m.entries) no_holding ∙ entries;
+    contracts = ap (λ n. replicate n None) contracts;
+    marks = λ hour within. get_or-replicate (length m.marks) hour 0 0 (omega arith);
+    entries = λ i hour agent within.
+        get_or-replicate (length m.entries) (entry_place (hours_in o) i hour) no_holding no_holding (omega (arith, mul-add-lt i (hours_in o) hour (count_in o) agent within));
+    accounts = λ i agent.
+        get_or-replicate (length m.accounts) i no_holding no_holding (omega arith)
+        ∙ (λ t. pair_of (money_of (lines_joined (sym (total_over_none lines_lawful 0 (hours_in o) (λ hour. no_lines) (λ k low below. refl)) t) no_lines))
+        (energy_of (sym (sum_to_const_zero (hours_in o)) t) (sym (sum_to_const_zero (hours_in o)) t)));
+  };
+}
 
 -- ---- a contract place changed
 

@@ -1,17 +1,17 @@
 -- Each request on a book that holds what stands: the answer is the one worked from what stands, and the book holds what stands then. Assumes nothing.
 use Rattle.std.proofs.Common.{◌≡◌, if◌then◌else◌, ℕ, ◌+◌, ◌-◌, ◌<◌, ◌≤◌, Bool, true, false, not, ◌&&◌, ◌||◌, eqb, ltb, leb, List, [], ◌∷◌, length, is_some, is_none, Some, None, Ok, Err, sum, Option, Result, sym, refl, ap, ◌∙◌, subst, ⊎_elim, arith}
 use Rattle.std.specs.Option.{option_map}
-use Rattle.std.proofs.lemmas.{List.get_or_past, Bool.false≢true, Bool.cases_lt, Bool.le-leb, Bool.leb-false, Bool.ltb-true, Bool.eqb-false, Bool.ltb-false, Bool.or_parts, Bool.and_parts, Bool.not-false}
+use Rattle.std.proofs.lemmas.{List.get_or_past, Bool.false≢true, Bool.cases_lt, Bool.le-leb, Bool.leb-false, Bool.ltb-true, Bool.eqb-false, Bool.ltb-false, Bool.or_parts, Bool.and_parts}
 use Rattle.tally.specs.Failing.{first_failing}
 use Rattle.tally.proofs.Failing.{all_each, first_failing_same}
 use Rattle.packets.specs.declared.faults.ByteFault.{ByteFault}
 use Rattle.forms.specs.{declared.Contract.Contract, Meaning.Meaning, Meaning.Keeps}
 use Rattle.settlement.specs.{declared.faults.BookFault.BookFault, declared.faults.BookFault.TheVariants.OutsideBook, declared.faults.BookFault.TheVariants.FreeHour, declared.faults.BookFault.TheVariants.MissingHour, declared.faults.BookFault.TheVariants.NoPowerCarrier, declared.faults.BookFault.TheVariants.CoveredHour, declared.states.State.State, declared.states.State.TheVariants.Open, declared.states.State.TheVariants.Closed, ContractFaults.place_fits, ContractFaults.contract_fits, ContractFaults.contract_fault, ContractFaults.taken_fault, ContractFaults.vacant_fault, ContractFaults.covered_fault, ContractFaults.covered_in, ContractFaults.place_at, ContractFaults.number_known, Faults.met_if, Faults.first_met, Faults.of_posting, Faults.answer_of, Holdings.entry_of, Legs.hour_of, Posting.Posting, PostingFaults.hour_fault, PostingFaults.posting_faults, Power.power_due}
 use Rattle.settlement.proofs.{Checked.hour_within, FaultTables.unmet, FaultTables.first_met_none, FaultTables.of_posting_none, Settles.fitting}
-use Rattle.book.specs.{Closing.close_fault, Entering.enter_fault, Entering.cancel_fault, Memory.Memory, Memory.is_posted, Months.setting_with, Outcomes.outcome, Posting.post_fault, Posting.unread_fault, Statements.statement_in, Statements.statement_fault, Statements.stated as stated_on, Withdrawal.withdraw_fault}
-use Rattle.law.specs.{Faults.fault_met, Replies.accepted, Replies.stated, Replies.skipped, Replies.done, Replies.told_as, Replies.reply, Requests.Opening, Requests.count_in, Requests.hours_in, Requests.Request, Requests.posting, Requests.unread, Requests.withdrawal, Requests.entering, Requests.cancelling, Requests.closing, Requests.statement, Standing.Standing, Standing.stands, Standing.setting_in, Turns.can_ask, Turns.judged, Turns.changed, Turns.left_by, Turns.next}
+use Rattle.book.specs.{Closing.close_fault, Entering.enter_fault, Entering.cancel_fault, Memory.Memory, Memory.is_posted, Months.setting_with, Outcomes.outcome, Posting.post_fault, Posting.unread_fault, Statements.statement_in, Statements.statement_fault, Withdrawal.withdraw_fault}
+use Rattle.law.specs.{Faults.fault_met, Replies.accepted, Replies.stated, Replies.refused, Replies.done, Replies.told_as, Replies.reply, Requests.Opening, Requests.count_in, Requests.hours_in, Requests.Request, Requests.posting, Requests.unread, Requests.withdrawal, Requests.entering, Requests.cancelling, Requests.closing, Requests.statement, Standing.Standing, Standing.stands, Standing.setting_in, Requests.can_ask, Turns.Manner, Turns.was_done, Turns.was_refused, Turns.was_skipped, Turns.manner, Turns.changed, Turns.left_by, Turns.next}
 use Rattle.law.proofs.{Sound.Opened, Sound.Sound, Turns.manner_asked, Turns.manner_unasked}
-use Rattle.runs.specs.{declared.answers.Told.TheVariants.Skipped, Reading.reply_of, Runs.Kept, Runs.kept_of, Runs.Turn, Runs.turn_of, Runs.done_as, Runs.stated_as, Runs.state_after, Runs.asked, Runs.skipped_by, Runs.heard}
+use Rattle.runs.specs.{Reading.reply_of, Runs.Kept, Runs.kept_of, Runs.Turn, Runs.turn_of, Runs.done_as, Runs.stated_as, Runs.state_after, Runs.asked, Runs.skipped_by, Runs.heard}
 use Rattle.runs.proofs.{Fits.past_memory, Fits.no_size_fault, Holds.figures_of_opening, Holds.Held, Holds.Holds, Holds.mark_for, Keeps.held_rewritten, Keeps.held_placed, Keeps.held_charged, Keeps.weights_read, Statements.statements_step}
 
 -- a mark other than 0 tells that a posting stands
@@ -47,38 +47,32 @@ pub record Stepped (form : Meaning) (o : Opening) (s : Standing) (r : Request) (
 module _ (form : Meaning) (keeps : Keeps form) (o : Opening) (opened : Opened o) (s : Standing) (sound : Sound form o s) (m : Memory) (held : Held form o s m) where
   -- ---- a request that can be asked, and one that cannot
 
-  -- what is told of a request that can be asked
-  asked_reply : (r : Request) → can_ask s.state r ≡ true → (fault : Option BookFault) → fault_met form o s r ≡ fault → told_as form o s r (judged fault) ≡ reply form o s r
-  asked_reply r asks fault is = ap (told_as form o s r) (sym (manner_asked form o s r asks fault is))
-
-  -- and what then stands
-  asked_next : (r : Request) → can_ask s.state r ≡ true → (fault : Option BookFault) → fault_met form o s r ≡ fault → left_by (judged fault) r s ≡ next form o s r
-  asked_next r asks fault is = ap (λ how. left_by how r s) (sym (manner_asked form o s r asks fault is))
-
-  -- one that cannot is skipped
-  unasked : (r : Request) (state : State) → state ≡ s.state → can_ask s.state r ≡ false → Stepped form o s r (skipped_by (kept_of state m))
-  unasked r state is never = record {
-    told = ap (told_as form o s r) (sym (manner_unasked form o s r never));
-    holds = subst (λ after. Holds form o after (kept_of state m)) (ap (λ how. left_by how r s) (sym (manner_unasked form o s r never))) (record { state = is; memory = held });
+  -- a request that is answered in this manner is told so, and leaves what that leaves
+  stepped_as : (r : Request) (how : Manner) → manner form o s r ≡ how → (came : Turn) → reply_of came.answer ≡ told_as form o s r how →
+      Holds form o (left_by how r s) came.kept → Stepped form o s r came
+  stepped_as r how is came told holds = record {
+    told = told ∙ ap (told_as form o s r) (sym is);
+    holds = subst (λ m. Holds form o (left_by m r s) came.kept) (sym is) holds;
   }
 
-  -- a call that meets the fault of its request, and otherwise leaves a book that holds what then stands
+  -- one that can be asked and meets this fault is refused for it, and done where there is none
+  asked_as : (r : Request) → can_ask s.state r ≡ true → (fault : Option BookFault) → fault ≡ fault_met form o s r → (came : Option BookFault → Turn) →
+      ((why : BookFault) → (reply_of (came (Some why)).answer ≡ refused why) × Holds form o s (came (Some why)).kept) →
+      (fault_met form o s r ≡ None → (reply_of (came None).answer ≡ done form o s r) × Holds form o (changed r s) (came None).kept) → Stepped form o s r (came fault)
+  asked_as r asks fault same came refusing accepting = by fault (sym same)
+    where
+      by : (met : Option BookFault) → fault_met form o s r ≡ met → Stepped form o s r (came met)
+      by None is = stepped_as r was_done (manner_asked form o s r asks None is) (came None) (accepting is).0 (accepting is).1
+      by (Some why) is = stepped_as r (was_refused why) (manner_asked form o s r asks (Some why) is) (came (Some why)) (refusing why).0 (refusing why).1
+
+  -- so it is of a call that gives nothing back, or a month
   call_step : {X : Type 0} (r : Request) → can_ask s.state r ≡ true → done form o s r ≡ accepted → (fault : Option BookFault) → fault ≡ fault_met form o s r →
       (x : X) (m' : Memory) (left : Result X BookFault → State) → ((why : BookFault) → left (Err why) ≡ s.state) →
       (fault_met form o s r ≡ None → Holds form o (changed r s) (kept_of (left (Ok x)) m')) →
       Stepped form o s r (turn_of (done_as (outcome fault x m m').answer) (kept_of (left (outcome fault x m m').answer) (outcome fault x m m').memory))
-  call_step {X} r asked yields fault same x m' left refusing accepting = by fault (sym same)
-    where
-      by : (met : Option BookFault) → fault_met form o s r ≡ met →
-          Stepped form o s r (turn_of (done_as (outcome met x m m').answer) (kept_of (left (outcome met x m m').answer) (outcome met x m m').memory))
-      by None is = record {
-        told = sym yields ∙ asked_reply r asked None is;
-        holds = subst (λ after. Holds form o after (kept_of (left (Ok x)) m')) (asked_next r asked None is) (accepting is);
-      }
-      by (Some why) is = record {
-        told = asked_reply r asked (Some why) is;
-        holds = subst (λ after. Holds form o after (kept_of (left (Err why)) m)) (asked_next r asked (Some why) is) (record { state = refusing why; memory = held });
-      }
+  call_step r asks yields fault same x m' left refusing accepting =
+      asked_as r asks fault same (λ met. turn_of (done_as (outcome met x m m').answer) (kept_of (left (outcome met x m m').answer) (outcome met x m m').memory))
+      (λ why. (refl, record { state = refusing why; memory = held })) (λ none. (sym yields, accepting none))
 
   -- ---- what marks and places tell
 
@@ -166,101 +160,46 @@ module _ (form : Meaning) (keeps : Keeps form) (o : Opening) (opened : Opened o)
       let few : agent ≤ count_in o = ltb-false (count_in o) agent inside.1 in
       omega arith
 
-  -- a statement, of an open month or of a closed one
-  statement_step : (agent : ℕ) (state : State) → state ≡ s.state → can_ask s.state (statement agent) ≡ true →
-      Stepped form o s (statement agent) (turn_of (stated_as (stated_on form (figures_of_opening o) agent m)) (kept_of state m))
-  statement_step agent state is asked = by (statement_fault form (figures_of_opening o) agent m) (sym (statement_fault_lem agent))
-    where
-      by : (met : Option BookFault) → fault_met form o s (statement agent) ≡ met →
-          Stepped form o s (statement agent) (turn_of (stated_as (answer_of (statement_in (hours_in o) (agent - 1) m) met)) (kept_of state m))
-      by None none = record {
-        told = ap stated (statements_step form keeps o opened s sound m held (agent - 1) (statement_agent agent none)) ∙ asked_reply (statement agent) asked None none;
-        holds = subst (λ after. Holds form o after (kept_of state m)) (asked_next (statement agent) asked None none) (record { state = is; memory = held });
-      }
-      by (Some why) met = record {
-        told = asked_reply (statement agent) asked (Some why) met;
-        holds = subst (λ after. Holds form o after (kept_of state m)) (asked_next (statement agent) asked (Some why) met) (record { state = is; memory = held });
-      }
-
-  -- ---- an open month
-
-  module _ (is : s.state ≡ Open) where
-    -- everything can be asked
-    asked_open : (r : Request) → can_ask s.state r ≡ true
-    asked_open r = ap (λ state. can_ask state r) is
-
-    -- a posting, and so a correction
-    post_step : (p : Posting) → Stepped form o s (posting p) (asked form (figures_of_opening o) (posting p) (kept_of Open m))
-    post_step p =
-        call_step (posting p) (asked_open (posting p)) refl _ (post_fault_lem p) tt _ (λ answer. Open) (λ why. sym is)
-        (λ none. record {
-          state = sym is;
-          memory =
-              held_rewritten form o s m held is p.hour (hour_within (setting_in form o s) p none) (Some p) 1 _ refl
-              (λ i agent t. entry_of (hour_of (setting_with form (figures_of_opening o) (held.agents t) (held.contracts t)) p i));
-        })
-
-    -- bytes that are no packet
-    unread_step : (fault : ByteFault) → Stepped form o s (unread fault) (asked form (figures_of_opening o) (unread fault) (kept_of Open m))
-    unread_step fault =
-        call_step (unread fault) (asked_open (unread fault)) refl _ (unread_fault_lem fault) tt _ (λ answer. Open) (λ why. sym is)
-        (λ none. record { state = sym is; memory = held })
-
-    -- a withdrawal
-    withdraw_step : (hour : ℕ) → Stepped form o s (withdrawal hour) (asked form (figures_of_opening o) (withdrawal hour) (kept_of Open m))
-    withdraw_step hour =
-        call_step (withdrawal hour) (asked_open (withdrawal hour)) refl _ (withdraw_fault_lem hour) tt _ (λ answer. Open) (λ why. sym is)
-        (λ none.
-        let within : hour < hours_in o = leb-false (hours_in o) hour (unmet _ _ (sym (of_posting_none _ (first_met_none (of_posting (hour_fault (hours_in o) hour) ∷ met_if (not (stands s hour)) (FreeHour hour) ∷ []) none).0))) in
-        record { state = sym is; memory = held_rewritten form o s m held is hour within None 0 _ refl (λ i agent. refl) })
-
-    -- a contract is entered where none stood
-    enter_step : (number : ℕ) (c : Contract) → Stepped form o s (entering number c) (asked form (figures_of_opening o) (entering number c) (kept_of Open m))
-    enter_step number c =
-        call_step (entering number c) (asked_open (entering number c)) refl _ (enter_fault_lem number c) tt _ (λ answer. Open) (λ why. sym is)
-        (λ none.
-        let rows = first_met_none (taken_fault s.places number ∷ contract_fault (setting_in form o s) c ∷ covered_fault (stands s) c ∷ []) none in
-        let vacant : place_at s.places number ≡ None = none_there _ (or_parts (not (number_known number)) (is_some (place_at s.places number)) (unmet _ _ (sym rows.0))).1 in
-        record { state = sym is; memory = held_placed form o s sound number (Some c) (ap (covered_in (stands s)) vacant) rows.1.1.0 m held })
-
-    -- and cancelled where it covers no standing hour
-    cancel_step : (number : ℕ) → Stepped form o s (cancelling number) (asked form (figures_of_opening o) (cancelling number) (kept_of Open m))
-    cancel_step number =
-        call_step (cancelling number) (asked_open (cancelling number)) refl _ (cancel_fault_lem number) tt _ (λ answer. Open) (λ why. sym is)
-        (λ none.
-        let rows = first_met_none (vacant_fault s.places number ∷ covered_in (stands s) (place_at s.places number) ∷ []) none in
-        record { state = sym is; memory = held_placed form o s sound number None rows.1.0 refl m held })
-
-    -- a closing charges power
-    close_step : Stepped form o s closing (asked form (figures_of_opening o) closing (kept_of Open m))
-    close_step =
-        call_step closing (asked_open closing) refl _ close_fault_lem (figures_of_opening o) _ (state_after Open) (λ why. sym is)
-        (λ none. record { state = refl; memory = held_charged form keeps o opened s sound m held is })
-
   -- ---- each request
 
-  -- one that cannot be asked of a closed month is asked of an open one
-  open_if : (r : Request) → can_ask Closed r ≡ false → can_ask s.state r ≡ true → s.state ≡ Open
-  open_if r only asks = by s.state asks
-    where
-      by : (state : State) → can_ask state r ≡ true → state ≡ Open
-      by Open asks = refl
-      by Closed asks = absurd (false≢true (sym only ∙ asks))
-
-  -- the step of an open month, at its state
-  at_open : (r : Request) (state : State) → s.state ≡ state → can_ask Closed r ≡ false → can_ask s.state r ≡ true →
-      (s.state ≡ Open → Stepped form o s r (asked form (figures_of_opening o) r (kept_of Open m))) → Stepped form o s r (asked form (figures_of_opening o) r (kept_of state m))
-  at_open r state at only asks step =
-      let is : s.state ≡ Open = open_if r only asks in subst (λ st. Stepped form o s r (asked form (figures_of_opening o) r (kept_of st m))) (sym is ∙ at) (step is)
-
   asked_step : (state : State) → s.state ≡ state → (r : Request) → can_ask s.state r ≡ true → Stepped form o s r (asked form (figures_of_opening o) r (kept_of state m))
-  asked_step state at (posting p) asks = at_open (posting p) state at refl asks (λ is. post_step is p)
-  asked_step state at (unread fault) asks = at_open (unread fault) state at refl asks (λ is. unread_step is fault)
-  asked_step state at (withdrawal hour) asks = at_open (withdrawal hour) state at refl asks (λ is. withdraw_step is hour)
-  asked_step state at (entering number c) asks = at_open (entering number c) state at refl asks (λ is. enter_step is number c)
-  asked_step state at (cancelling number) asks = at_open (cancelling number) state at refl asks (λ is. cancel_step is number)
-  asked_step state at closing asks = at_open closing state at refl asks (λ is. close_step is)
-  asked_step state at (statement agent) asks = statement_step agent state (sym at) asks
+  asked_step state at (statement agent) asks =
+      asked_as (statement agent) asks _ (statement_fault_lem agent) (λ met. turn_of (stated_as (answer_of (statement_in (hours_in o) (agent - 1) m) met)) (kept_of state m))
+      (λ why. (refl, record { state = sym at; memory = held }))
+      (λ none. (ap stated (statements_step form keeps o opened s sound m held (agent - 1) (statement_agent agent none)), record { state = sym at; memory = held }))
+  -- nothing else can be asked of a closed month
+  asked_step Closed at r asks = absurd (false≢true (sym (ap (λ st. can_ask st r) at) ∙ asks))
+  asked_step Open at (posting p) asks =
+      call_step (posting p) asks refl _ (post_fault_lem p) tt _ (λ answer. Open) (λ why. sym at)
+      (λ none. record {
+        state = sym at;
+        memory =
+            held_rewritten form o s m held at p.hour (hour_within (setting_in form o s) p none) (Some p) 1 _ refl
+            (λ i agent t. entry_of (hour_of (setting_with form (figures_of_opening o) (held.agents t) (held.contracts t)) p i));
+      })
+  asked_step Open at (unread fault) asks =
+      call_step (unread fault) asks refl _ (unread_fault_lem fault) tt _ (λ answer. Open) (λ why. sym at) (λ none. record { state = sym at; memory = held })
+  asked_step Open at (withdrawal hour) asks =
+      call_step (withdrawal hour) asks refl _ (withdraw_fault_lem hour) tt _ (λ answer. Open) (λ why. sym at)
+      (λ none.
+      let within : hour < hours_in o = leb-false (hours_in o) hour (unmet _ _ (sym (of_posting_none _ (first_met_none (of_posting (hour_fault (hours_in o) hour) ∷ met_if (not (stands s hour)) (FreeHour hour) ∷ []) none).0))) in
+      record { state = sym at; memory = held_rewritten form o s m held at hour within None 0 _ refl (λ i agent. refl) })
+  -- a contract is entered where none stood
+  asked_step Open at (entering number c) asks =
+      call_step (entering number c) asks refl _ (enter_fault_lem number c) tt _ (λ answer. Open) (λ why. sym at)
+      (λ none.
+      let rows = first_met_none (taken_fault s.places number ∷ contract_fault (setting_in form o s) c ∷ covered_fault (stands s) c ∷ []) none in
+      let vacant : place_at s.places number ≡ None = none_there _ (or_parts (not (number_known number)) (is_some (place_at s.places number)) (unmet _ _ (sym rows.0))).1 in
+      record { state = sym at; memory = held_placed form o s sound number (Some c) (ap (covered_in (stands s)) vacant) rows.1.1.0 m held })
+  -- and cancelled where it covers no standing hour
+  asked_step Open at (cancelling number) asks =
+      call_step (cancelling number) asks refl _ (cancel_fault_lem number) tt _ (λ answer. Open) (λ why. sym at)
+      (λ none.
+      let rows = first_met_none (vacant_fault s.places number ∷ covered_in (stands s) (place_at s.places number) ∷ []) none in
+      record { state = sym at; memory = held_placed form o s sound number None rows.1.0 refl m held })
+  asked_step Open at closing asks =
+      call_step closing asks refl _ close_fault_lem (figures_of_opening o) _ (state_after Open) (λ why. sym at)
+      (λ none. record { state = refl; memory = held_charged form keeps o opened s sound m held at })
 
   -- whether it can be asked or not
   heard_step : (state : State) → s.state ≡ state → (r : Request) → Stepped form o s r (heard form (figures_of_opening o) r (kept_of state m))
@@ -268,7 +207,7 @@ module _ (form : Meaning) (keeps : Keeps form) (o : Opening) (opened : Opened o)
     where
       by : (asks : Bool) → can_ask s.state r ≡ asks → Stepped form o s r (if asks then asked form (figures_of_opening o) r (kept_of state m) else skipped_by (kept_of state m))
       by true asks = asked_step state at r asks
-      by false never = unasked r state (sym at) never
+      by false never = stepped_as r was_skipped (manner_unasked form o s r never) _ refl (record { state = sym at; memory = held })
 
 module _ (form : Meaning) (keeps : Keeps form) (o : Opening) (opened : Opened o) (s : Standing) (sound : Sound form o s) (k : Kept) (holds : Holds form o s k) (r : Request) where
   -- any request on a book that holds what stands

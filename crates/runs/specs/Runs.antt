@@ -6,7 +6,7 @@ use Rattle.calendar.specs.Limits.{hours_of}
 use Rattle.forms.specs.Meaning.{Meaning}
 use Rattle.settlement.specs.{declared.faults.BookFault.BookFault, declared.faults.BookFault.TheVariants.WrongSize, declared.states.State.State, declared.states.State.TheVariants.Closed, Faults.met_if, Faults.first_met, Holdings.no_holding}
 use Rattle.book.specs.{declared.months.MonthFigures.MonthFigures, declared.statements.Statement.Statement, Closing.closed as closed_by, Entering.entered, Entering.cancelled, Outcomes.Outcome, Posting.posted, Posting.unread as refused_unread, Statements.statement_of, Statements.statement_in, Statements.statement_fault, Statements.stated, Withdrawal.withdrawn, Memory.Memory}
-use Rattle.law.specs.{Replies.is_done, Requests.Request, Requests.posting, Requests.unread, Requests.withdrawal, Requests.entering, Requests.cancelling, Requests.closing, Requests.statement, Requests.about_contracts, Turns.can_ask}
+use Rattle.law.specs.{Replies.is_done, Requests.Request, Requests.posting, Requests.unread, Requests.withdrawal, Requests.entering, Requests.cancelling, Requests.closing, Requests.statement, Requests.about_contracts, Requests.can_ask}
 use Rattle.runs.specs.{declared.lent.Lent.Lent, declared.months.Month.Month, declared.answers.Told.TheVariants.Accepted, declared.answers.Told.TheVariants.Stated, declared.answers.Told.TheVariants.Skipped, Lent.memory_in, Reading.Answer, Reading.reply_of, Reading.state_of}
 
 -- a book as it is kept: its month is open or closed, and all its memory

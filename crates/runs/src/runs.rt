@@ -116,12 +116,7 @@ fn answer_closed<F: ContractForm>(
 {
     match call {
         Call::Statement(agent) => final_statement(month, form, *agent, view).map(Told::Stated),
-        Call::Post { .. }
-        | Call::Packet(_)
-        | Call::Withdraw(_)
-        | Call::Enter { .. }
-        | Call::Cancel(_)
-        | Call::Close => Ok(Told::Skipped),
+        _ => Ok(Told::Skipped),
     }
 }
 

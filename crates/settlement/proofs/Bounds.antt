@@ -1,9 +1,9 @@
 -- How large the excess of an hour is at most. Assumes nothing.
 use Rattle.std.proofs.Common.{◌≡◌, ℕ, ◌+◌, ◌<◌, ◌≤◌, Bool, true, false, cond, ◌&&◌, eqb, leb, List, length, get_or, Some, None, Option, ap, ◌∙◌, arith}
-use Rattle.std.proofs.lemmas.{List.FromFn.length-map-range_with_len, List.get_or_default, Bool.and_parts, Bool.leb-true}
+use Rattle.std.proofs.lemmas.{List.FromFn.length-map-range_with_len, List.get_or_default, Bool.and_parts, Bool.leb-true, Bool.Decides.nat_tests}
 use Rattle.valuation.specs.Limits.{most_energy, most_price, least_factor, most_factor, most_cost_amount}
 use Rattle.valuation.proofs.{Amounts.excess_of_le, Sharing.part_of_le}
-use Rattle.settlement.specs.{declared.agents.Agent.Agent, declared.lines.Class.Class, declared.lines.Class.TheVariants.Normal, declared.lines.Class.TheVariants.Obligated, declared.lines.Class.TheVariants.Forced, declared.lines.Line.Line, Hour.excess_in, Hour.excess_on, Hour.is_obligated, Hour.is_forced, Hour.obligated_on, Hour.obligated_sum, Hour.caused_on, Hour.caused_sum, Hour.weight_at, Hour.weights_of, Hour.carried_by, Limits.most_excess, Lines.class_of, Lines.line_within, Lines.no_line, Posting.Posting, Posting.line_at, PostingFaults.PostingFits}
+use Rattle.settlement.specs.{declared.agents.Agent.Agent, declared.lines.Class.Class, declared.lines.Class.TheVariants.Normal, declared.lines.Line.Line, Hour.excess_in, Hour.excess_on, Hour.is_obligated, Hour.is_forced, Hour.obligated_on, Hour.obligated_sum, Hour.caused_on, Hour.caused_sum, Hour.weight_at, Hour.weights_of, Hour.carried_by, Limits.most_excess, Lines.class_of, Lines.line_within, Lines.no_line, Posting.Posting, Posting.line_at, PostingFaults.PostingFits}
 use Rattle.tally.proofs.Numbers.{sum_to_le}
 
 -- the figures of a line are within their limits
@@ -35,16 +35,14 @@ module _ (price : ℕ) (l : Line) (within : Within l) where
   excess_in_le : (class : Option Class) → excess_in price l class ≤ most_cost_amount
   excess_in_le None = omega arith
   excess_in_le (Some Normal) = omega arith
-  excess_in_le (Some Obligated) = excess_of_le price l.gross l.injected l.factor l.cost within.gross within.cost
-  excess_in_le (Some Forced) = excess_of_le price l.gross l.injected l.factor l.cost within.gross within.cost
+  excess_in_le (Some _) = excess_of_le price l.gross l.injected l.factor l.cost within.gross within.cost
 
   pub excess_le : excess_on price l ≤ most_cost_amount
   excess_le = excess_in_le (class_of l.class)
 
   -- what is only counted where a test holds is at most as much
   if_excess_le : (test : Bool) → cond test (excess_on price l) 0 ≤ most_cost_amount
-  if_excess_le true = excess_le
-  if_excess_le false = omega arith
+  if_excess_le test = grind (arith, nat_tests, excess_le)
 
 module _ (p : Posting) (fits : PostingFits p) where
   -- the line that an iterator hands out
@@ -68,8 +66,5 @@ module _ (p : Posting) (fits : PostingFits p) where
 
   pub carried_le : (agents : List Agent) (i : ℕ) → i < length p.lines → carried_by agents p i ≤ most_excess
   carried_le agents i below =
-      omega (
-        arith,
-        obligated_le,
-        part_of_le (obligated_sum p) (weights_of agents p.lines) i (omega (arith, length-map-range_with_len (weight_at agents p.lines) 0 (length p.lines))),
-      )
+      let long = length-map-range_with_len (weight_at agents p.lines) 0 (length p.lines) in
+      omega (arith, obligated_le, part_of_le (obligated_sum p) (weights_of agents p.lines) i (omega arith))

@@ -29,10 +29,8 @@ module _ (count : ℕ) (p : Posting) (head : None ≡ head_fault count p) where
 
 -- all that is known
 pub record Checked (setting : Setting) (p : Posting) : Type 0 where
-  pub in_month : p.hour < hours_in setting
   pub long : length p.lines ≡ length setting.agents
   pub fits : PostingFits p
-  pub injected_within : injected_together p.lines ≤ most_energy
   pub kept : (i : ℕ) → i < length p.lines → kept_at setting.agents p.lines i ≡ true
   pub carried : uncarried setting.agents p ≡ false
 
@@ -50,12 +48,9 @@ module _ (setting : Setting) (p : Posting) (faultless : posting_fault setting p 
   pub checked : length setting.agents ≤ most_agents → Checked setting p
   checked few =
       let head = sym own_none.1.0 in
-      let together = sym own_none.1.1.1.1.0 in
       record {
-        in_month = hour_within;
         long = head_long (length setting.agents) p head;
-        fits = posting_fits (length setting.agents) p head few (sym own_none.1.1.0) together;
-        injected_within = ltb-false most_energy (injected_together p.lines) (or_parts _ _ (unmet _ _ together)).0;
+        fits = posting_fits (length setting.agents) p head few (sym own_none.1.1.0) (sym own_none.1.1.1.1.0);
         kept = λ i below.
             ap (kept_at setting.agents p.lines) (omega arith)
             ∙ each_passed (kept_at setting.agents p.lines) 0 (length p.lines) (mapped_none _ _ (sym own_none.1.1.1.0)) i below;

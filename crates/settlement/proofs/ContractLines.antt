@@ -1,10 +1,10 @@
 -- The legs of contracts that may stand: their size, what they add up to, and that forms that are alike give the same. Assumes nothing.
 use Rattle.std.proofs.Common.{◌≡◌, ℕ, ◌+◌, ◌-◌, ◌*◌, ◌<◌, ◌≤◌, Bool, true, false, not, cond, eqb, List, [], ◌∷◌, map, length, get_or, ℤ, pos, ◌+ℤ◌, nat_abs, Some, None, Option, sym, refl, ap, ◌∙◌, subst, inl, inr, arith}
 use Rattle.std.specs.List.{All, list_all}
-use Rattle.std.proofs.lemmas.{Int.ints, Bool.and_parts, Bool.cases_eq, Bool.cond-true, Bool.cond-false, Bool.cond_both, Bool.eq-eqb, Bool.ne_eqb, List.Elements.All-head, List.Elements.All-tail, Slice.Zip.get_or-zip}
+use Rattle.std.proofs.lemmas.{Int.ints, Bool.and_parts, Bool.not-true, Bool.eqb-false, Bool.cases_eq, Bool.cond-true, Bool.cond-false, Bool.cond_both, Bool.eq-eqb, Bool.ne_eqb, List.Elements.All-head, List.Elements.All-tail, Slice.Zip.get_or-zip}
 use Rattle.calendar.specs.Limits.{most_days}
-use Rattle.tally.specs.Sums.{sum_to_ℤ}
-use Rattle.tally.proofs.{Numbers.sum_to_ℤ_change, Numbers.sum_to_ℤ_const_zero, Numbers.sum_to_ℤ_add, Numbers.int_sum_by_same, Numbers.int_sum_by_zero, Numbers.int_sum_by_abs, Numbers.int_sum_over_by, Sums.All-passing}
+use Rattle.tally.specs.{Lawful.Lawful, Sums.sum_to_ℤ, Total.total_over}
+use Rattle.tally.proofs.{Numbers.int_lawful, Numbers.sum_to_ℤ_const_zero, Numbers.sum_to_ℤ_add, Numbers.int_sum_by_same, Numbers.int_sum_by_zero, Numbers.int_sum_by_abs, Numbers.int_sum_over_by, Sums.All-passing, Sums.total_over_changed, Sums.total_over_none, Totals.right_identity}
 use Rattle.forms.specs.{declared.Contract.Contract, declared.Legs.Legs, Limits.most_leg, Meaning.Meaning, Meaning.MayAsk, Meaning.Balanced, Meaning.Keeps, Meaning.Alike, Parties.party_numbers, Parties.points_of, Parties.points_together, Parties.legs_by_party, Terms.numbers_apart}
 use Rattle.settlement.specs.{ContractFaults.parties_of, ContractFaults.PartiesKnown, ContractFaults.contract_fits, ContractFaults.place_fits, ContractFaults.covers, Legs.facts_of, Legs.legs_of, Legs.is_number, Legs.given_to, Legs.given_in, Legs.contract_points_of, Legs.contract_line, Posting.Posting, PostingFaults.PostingFits, Setting.Setting}
 use Rattle.settlement.proofs.Settles.{fitting, settles}
@@ -12,12 +12,14 @@ use Rattle.settlement.proofs.Settles.{fitting, settles}
 -- ---- legs by party
 
 -- what one number of a book is given, and no other, is given once
-once : (n number : ℕ) (z : ℤ) → 1 ≤ number → number ≤ n → sum_to_ℤ n (λ i. cond (eqb number (i + 1)) z (pos 0)) ≡ z
-once n number z least most =
-    let here = cond-true (eqb number (number - 1 + 1)) z (pos 0) (eq-eqb number (number - 1 + 1) (omega arith)) in
-    let only = sum_to_ℤ_change n (λ i. pos 0) (λ i. cond (eqb number (i + 1)) z (pos 0)) (number - 1) (omega arith)
-    (λ i below other. cond-false (eqb number (i + 1)) z (pos 0) (ne_eqb number (i + 1) (λ e. other (omega arith)))) in
-    omega (arith, ints, sum_to_ℤ_const_zero n)
+pub once : {T : Type 0} {nothing : T} {joined : T → T → T} (laws : Lawful nothing joined) (n number : ℕ) (z : T) →
+    1 ≤ number → number ≤ n → total_over nothing joined 0 n (λ i. cond (eqb number (i + 1)) z nothing) ≡ z
+once {T} {nothing} {joined} laws n number z least most =
+    let only = total_over_changed laws 0 n (λ i. nothing) (λ i. cond (eqb number (i + 1)) z nothing) (number - 1) (omega arith) (omega arith)
+    (λ i low below other. cond-false (eqb number (i + 1)) z nothing (ne_eqb number (i + 1) (λ e. other (omega arith)))) in
+    let here = cond-true (eqb number (number - 1 + 1)) z nothing (eq-eqb number (number - 1 + 1) (omega arith)) in
+    sym (right_identity laws _) ∙ only
+    ∙ (λ t. joined (total_over_none laws 0 n (λ i. nothing) (λ k low below. refl) t) (here t)) ∙ laws.identity z
 
 -- the number of a leg is one of a book of so many
 abbrev Known : ℕ → ℕ × ℤ → Type 0
@@ -29,19 +31,16 @@ given_together n [] known = sum_to_ℤ_const_zero n
 given_together n (leg ∷ legs) known =
     let here = All-head (Known n) leg legs known in
     sum_to_ℤ_add n (λ i. cond (eqb leg.0 (i + 1)) leg.1 (pos 0)) (λ i. given_to (is_number i) legs)
-    ∙ (λ t. once n leg.0 leg.1 here.0 here.1 t +ℤ given_together n legs (All-tail (Known n) leg legs known) t)
+    ∙ (λ t. once int_lawful n leg.0 leg.1 here.0 here.1 t +ℤ given_together n legs (All-tail (Known n) leg legs known) t)
 
 -- an agent is given nothing of others' legs
 given_none : (i : ℕ) (legs : List (ℕ × ℤ)) → list_all (λ other. not (eqb (i + 1) other)) (map (λ leg. leg.0) legs) ≡ true → given_to (is_number i) legs ≡ pos 0
 given_none i [] apart = refl
 given_none i (leg ∷ legs) apart =
     let parts = and_parts (not (eqb (i + 1) leg.0)) _ apart in
-    let other = cond-false (eqb leg.0 (i + 1)) leg.1 (pos 0) (ne_eqb leg.0 (i + 1) (λ e. both (eqb (i + 1) leg.0) (eq-eqb (i + 1) leg.0 (sym e)) parts.0)) in
+    let apart = eqb-false (i + 1) leg.0 (not-true _ parts.0) in
+    let other = cond-false (eqb leg.0 (i + 1)) leg.1 (pos 0) (ne_eqb leg.0 (i + 1) (λ e. apart (sym e))) in
     omega (arith, ints, given_none i legs parts.1)
-  where
-    both : (test : Bool) → test ≡ true → not test ≡ true → ⊥
-    both true is is_not = cc
-    both false is is_not = cc
 
 -- of legs of numbers that are apart it gets one at most
 given_abs : (i : ℕ) (legs : List (ℕ × ℤ)) → numbers_apart (map (λ leg. leg.0) legs) ≡ true → All (λ leg. nat_abs leg.1 ≤ most_leg) legs → nat_abs (given_to (is_number i) legs) ≤ most_leg
@@ -51,15 +50,11 @@ given_abs i (leg ∷ legs) apart within =
     let small = All-head (λ (x : ℕ × ℤ). nat_abs x.1 ≤ most_leg) leg legs within in
     elim (cases_eq leg.0 (i + 1)) [
       | inl is ↦
-          let rest = given_none i legs (subst (λ (number : ℕ). list_all (λ other. not (eqb number other)) (map (λ (x : ℕ × ℤ). x.0) legs) ≡ true) is parts.0) in
-          omega (arith, ints, cond-true (eqb leg.0 (i + 1)) leg.1 (pos 0) (eq-eqb leg.0 (i + 1) is))
+          let own = cond-true (eqb leg.0 (i + 1)) leg.1 (pos 0) (eq-eqb leg.0 (i + 1) is) in
+          omega (arith, ints, given_none i legs (rw is at parts.0))
       | inr other ↦
-          omega (
-            arith,
-            ints,
-            cond-false (eqb leg.0 (i + 1)) leg.1 (pos 0) (ne_eqb leg.0 (i + 1) other),
-            given_abs i legs parts.1 (All-tail (λ (x : ℕ × ℤ). nat_abs x.1 ≤ most_leg) leg legs within),
-          )
+          let rest = given_abs i legs parts.1 (All-tail (λ (x : ℕ × ℤ). nat_abs x.1 ≤ most_leg) leg legs within) in
+          omega (arith, ints, cond-false (eqb leg.0 (i + 1)) leg.1 (pos 0) (ne_eqb leg.0 (i + 1) other))
     ]
 
 -- a leg of a contract has a number and points of the two lists

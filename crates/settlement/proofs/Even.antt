@@ -1,15 +1,15 @@
 -- What an hour gives all agents together: it comes out even. Assumes nothing.
-use Rattle.std.proofs.Common.{◌≡◌, ℕ, ◌+◌, ◌-◌, ◌<◌, ◌≤◌, Bool, true, false, cond, ◌&&◌, eqb, ltb, leb, ◌⊎◌, List, length, pos, neg_ℤ, Some, None, sum, Option, sym, refl, ap, ◌∙◌, subst, inl, inr, eq-zero-or-pos, arith}
+use Rattle.std.proofs.Common.{◌≡◌, ℕ, ◌+◌, ◌-◌, ◌<◌, ◌≤◌, Bool, true, false, cond, ◌&&◌, eqb, ltb, leb, List, length, pos, neg_ℤ, Some, sum, Option, sym, refl, ◌∙◌, subst, inl, inr, eq-zero-or-pos, arith}
 use Rattle.std.specs.List.{list_all}
-use Rattle.std.proofs.lemmas.{List.FromFn.length-map-range_with_len, Int.ints, Bool.false≢true, Bool.and_parts, Bool.and_cases, Bool.leb-true, Bool.ltb-false, Bool.eq-eqb, Bool.ne_eqb, Bool.eqb-false, Bool.cond-true, Bool.cond-false}
+use Rattle.std.proofs.lemmas.{List.FromFn.length-map-range_with_len, Int.ints, Bool.false≢true, Bool.and_parts, Bool.leb-true, Bool.Decides.nat_tests}
 use Rattle.valuation.specs.Sharing.{part_of}
 use Rattle.valuation.proofs.Sharing.{sum-parts_of, part_of_no_points}
-use Rattle.settlement.specs.{declared.agents.Agent.Agent, declared.lines.Class.Class, declared.lines.Class.TheVariants.Normal, declared.lines.Class.TheVariants.Obligated, declared.lines.Class.TheVariants.Forced, declared.lines.Line.Line, Agents.role_at, Hour.injected_amount, Hour.withdrawn_amount, Hour.market_line, Hour.excess_in, Hour.excess_on, Hour.is_obligated, Hour.is_forced, Hour.obligated_on, Hour.obligated_sum, Hour.caused_on, Hour.caused_sum, Hour.weight_at, Hour.weights_of, Hour.carried_by, Hour.overcost_line, Hour.residue_of, Lines.class_of, Lines.must_run, Lines.class_kept, Posting.Posting, Posting.line_at, PostingFaults.kept_at, PostingFaults.uncarried, ContractFaults.place_fits, Legs.hour_of, Setting.Setting, Setting.count_in}
+use Rattle.settlement.specs.{declared.agents.Agent.Agent, declared.lines.Class.Class, declared.lines.Class.TheVariants.Obligated, declared.lines.Class.TheVariants.Forced, declared.lines.Line.Line, Agents.role_at, Hour.injected_amount, Hour.withdrawn_amount, Hour.market_line, Hour.excess_in, Hour.excess_on, Hour.is_obligated, Hour.is_forced, Hour.obligated_on, Hour.obligated_sum, Hour.caused_on, Hour.caused_sum, Hour.weight_at, Hour.weights_of, Hour.carried_by, Hour.overcost_line, Hour.residue_of, Lines.class_of, Lines.must_run, Lines.class_kept, Posting.Posting, Posting.line_at, PostingFaults.kept_at, PostingFaults.uncarried, ContractFaults.place_fits, Legs.hour_of, Setting.Setting, Setting.count_in}
 use Rattle.forms.specs.{declared.roles.Role.Role, Meaning.Keeps}
 use Rattle.calendar.specs.Limits.{most_days}
-use Rattle.tally.specs.{declared.money.MoneyLine.MoneyLine, declared.money.MoneyLine.TheVariants.Market, declared.money.MoneyLine.TheVariants.Contract, declared.money.MoneyLine.TheVariants.Overcost, declared.money.MoneyLine.TheVariants.Power, Lines.Lines, Lines.line_on, Lines.no_lines, LinesLaws.lines_same, Sums.sum_to, Sums.sum_to_ℤ, Sums.lines_over}
-use Rattle.tally.proofs.{Lines.line_on-over, Numbers.sum_to_same, Numbers.sum_to_change, Numbers.sum_to_const_zero, Numbers.sum_to_zero, Numbers.sum_to_add, Numbers.sum_to_swap, Numbers.sum_to_ℤ_const_zero, Numbers.sum_to_ℤ_less, Numbers.sum_counting}
-use Rattle.settlement.proofs.{Checked.Checked, ContractLines.contract_lines_together}
+use Rattle.tally.specs.{declared.money.MoneyLine.TheVariants.Market, declared.money.MoneyLine.TheVariants.Contract, declared.money.MoneyLine.TheVariants.Overcost, declared.money.MoneyLine.TheVariants.Power, Lines.Lines, Lines.no_lines, Sums.sum_to, Sums.sum_to_ℤ, Sums.lines_over}
+use Rattle.tally.proofs.{Lines.line_on-over, Numbers.nat_lawful, Numbers.sum_to_same, Numbers.sum_to_const_zero, Numbers.sum_to_zero, Numbers.sum_to_add, Numbers.sum_to_swap, Numbers.sum_to_ℤ_const_zero, Numbers.sum_to_ℤ_less, Numbers.sum_counting}
+use Rattle.settlement.proofs.{Checked.Checked, ContractLines.once, ContractLines.contract_lines_together}
 
 -- ---- the excess of a line
 
@@ -20,49 +20,30 @@ forced_on price l = cond (is_forced (class_of l.class)) (excess_on price l) 0
 -- every excess is obligated or forced
 excess_split : (price : ℕ) (l : Line) (class : Option Class) →
     excess_in price l class ≡ cond (is_obligated class) (excess_in price l class) 0 + cond (is_forced class) (excess_in price l class) 0
-excess_split price l None = refl
-excess_split price l (Some Normal) = refl
 excess_split price l (Some Obligated) = omega arith
-excess_split price l (Some Forced) = omega arith
+excess_split price l _ = omega arith
 
--- the cause of a forced line is an agent of the book
-cause_within : (count : ℕ) (role : Option Role) (l : Line) (class : Option Class) → class_kept count role l class ≡ true → is_forced class ≡ true → (1 ≤ l.cause) × (l.cause ≤ count)
-cause_within count role l None kept forced = absurd (false≢true forced)
-cause_within count role l (Some Normal) kept forced = absurd (false≢true forced)
-cause_within count role l (Some Obligated) kept forced = absurd (false≢true forced)
-cause_within count role l (Some Forced) kept forced =
-    let tests = and_parts (leb 1 l.cause) (leb l.cause count) (and_parts (must_run role l) (leb 1 l.cause && leb l.cause count) kept).1 in
-    (leb-true 1 l.cause tests.0, leb-true l.cause count tests.1)
-
--- and has a line
+-- the cause of a forced line is an agent of the book, and has a line
 cause_in : (count n : ℕ) → n ≡ count → (role : Option Role) (l : Line) (class : Option Class) → class_kept count role l class ≡ true → is_forced class ≡ true → (1 ≤ l.cause) × (l.cause ≤ n)
-cause_in count n long role l class kept forced = let within = cause_within count role l class kept forced in (within.0, omega (arith, within.1))
+cause_in count n long role l (Some Forced) kept forced =
+    let tests = and_parts (leb 1 l.cause) (leb l.cause count) (and_parts (must_run role l) _ kept).1 in
+    (leb-true 1 l.cause tests.0, omega (arith, leb-true l.cause count tests.1))
+cause_in count n long role l _ kept forced = absurd (false≢true forced)
 
 -- one agent, and no other, caused a forced line
 caused_once : (n cause excess : ℕ) (forced : Bool) → (forced ≡ true → (1 ≤ cause) × (cause ≤ n)) →
     sum_to n (λ i. cond (forced && eqb cause (i + 1)) excess 0) ≡ cond forced excess 0
 caused_once n cause excess false within = sum_to_const_zero n
-caused_once n cause excess true within =
-    let least : 1 ≤ cause = (within refl).0 in
-    let most : cause ≤ n = (within refl).1 in
-    let here = cond-true (eqb cause (cause - 1 + 1)) excess 0 (eq-eqb cause (cause - 1 + 1) (omega arith)) in
-    let only = sum_to_change n (λ i. 0) (λ i. cond (eqb cause (i + 1)) excess 0) (cause - 1) (omega arith)
-    (λ i below other. cond-false (eqb cause (i + 1)) excess 0 (ne_eqb cause (i + 1) (λ e. other (omega arith)))) in
-    omega (arith, sum_to_const_zero n)
+caused_once n cause excess true within = once nat_lawful n cause excess (within refl).0 (within refl).1
 
 -- the parts of what can be carried add up
 pub parts_together : (points : ℕ) (weights : List ℕ) → (ltb 0 points && eqb (sum weights) 0) ≡ false → sum_to (length weights) (part_of points weights) ≡ points
-parts_together points weights carried = either (eq-zero-or-pos (sum weights))
-  where
-    nothing : sum weights ≡ 0 → (ltb 0 points ≡ false) ⊎ (eqb (sum weights) 0 ≡ false) → points ≡ 0
-    nothing none (inl few) = omega (arith, ltb-false 0 points few)
-    nothing none (inr some) = absurd (eqb-false (sum weights) 0 some none)
-
-    either : (sum weights ≡ 0) ⊎ (0 < sum weights) → sum_to (length weights) (part_of points weights) ≡ points
-    either (inl none) =
-        let empty : points ≡ 0 = nothing none (and_cases (ltb 0 points) (eqb (sum weights) 0) carried) in
-        sum_to_zero (length weights) (part_of points weights) (λ i below. ap (λ x. part_of x weights i) empty ∙ part_of_no_points weights i) ∙ sym empty
-    either (inr some) = sym (sum_counting (part_of points weights) (length weights)) ∙ sum-parts_of points weights some
+parts_together points weights carried = elim (eq-zero-or-pos (sum weights)) [
+  | inl none ↦
+      let empty : points ≡ 0 = grind (arith, nat_tests) in
+      sum_to_zero (length weights) (part_of points weights) (λ i below. rw empty (part_of_no_points weights i)) ∙ sym empty
+  | inr some ↦ sym (sum_counting (part_of points weights) (length weights)) ∙ sum-parts_of points weights some
+]
 
 -- ---- an hour
 
@@ -77,8 +58,7 @@ module _ (agents : List Agent) (p : Posting) (long : length p.lines ≡ length a
 
   -- all that is carried is the obligated excess
   carried_together : sum_to (length p.lines) (carried_by agents p) ≡ obligated_sum p
-  carried_together =
-      subst (λ n. sum_to n (carried_by agents p) ≡ obligated_sum p) (length-map-range_with_len (weight_at agents p.lines) 0 (length p.lines))
+  carried_together = rw (length-map-range_with_len (weight_at agents p.lines) 0 (length p.lines)) at
       (parts_together (obligated_sum p) (weights_of agents p.lines) carried)
 
   -- all excess is caused or carried
@@ -114,13 +94,11 @@ even setting p keeps few fit checked = record {
 
 -- as lines
 pub even_lines : (setting : Setting) (p : Posting) → Even setting p → lines_over 0 (count_in setting) (λ i. (hour_of setting p i).lines) ≡ record no_lines { market = neg_ℤ (residue_of p) }
-even_lines setting p even = lines_same _ _ each
-  where
-    lines : ℕ → Lines
-    lines i = (hour_of setting p i).lines
-
-    each : (line : MoneyLine) → line_on line (lines_over 0 (count_in setting) lines) ≡ line_on line (record no_lines { market = neg_ℤ (residue_of p) })
-    each Market = line_on-over Market 0 (count_in setting) lines ∙ even.market
-    each Contract = line_on-over Contract 0 (count_in setting) lines ∙ even.contract
-    each Overcost = line_on-over Overcost 0 (count_in setting) lines ∙ even.overcost
-    each Power = line_on-over Power 0 (count_in setting) lines ∙ sum_to_ℤ_const_zero (count_in setting)
+even_lines setting p even i =
+    let lines : ℕ → Lines = λ k. (hour_of setting p k).lines in
+    record {
+      market = (line_on-over Market 0 (count_in setting) lines ∙ even.market) i;
+      contract = (line_on-over Contract 0 (count_in setting) lines ∙ even.contract) i;
+      overcost = (line_on-over Overcost 0 (count_in setting) lines ∙ even.overcost) i;
+      power = (line_on-over Power 0 (count_in setting) lines ∙ sum_to_ℤ_const_zero (count_in setting)) i;
+    }

@@ -38,12 +38,8 @@ pub points_placed : (fresh : List Holding) (number : ℕ) (points : ℤ) (i : �
 points_placed fresh number points i some known within = elim (cases_eq number (i + 1)) [
   | inl here ↦
       let place : number - 1 ≡ i = omega arith in
-      ap (λ k. get_or (set fresh k (with_points points (get_or fresh k no_holding))) i no_holding) place
-      ∙ get_or-set_same fresh i (with_points points (get_or fresh i no_holding)) no_holding within
-      ∙ ap (λ z. with_points z (get_or fresh i no_holding)) (sym (cond-true (eqb number (i + 1)) points (pos 0) (eq-eqb number (i + 1) here)))
+      rw (place, eq-eqb number (i + 1) here) (get_or-set_same fresh i (with_points points (get_or fresh i no_holding)) no_holding within)
   | inr apart ↦
       let other : i ≡ number - 1 → ⊥ = λ e. apart (omega arith) in
-      get_or-set_other fresh (number - 1) i (with_points points (get_or fresh (number - 1) no_holding)) no_holding other
-      ∙ sym (points_none (get_or fresh i no_holding))
-      ∙ ap (λ z. with_points z (get_or fresh i no_holding)) (sym (cond-false (eqb number (i + 1)) points (pos 0) (ne_eqb number (i + 1) apart)))
+      rw (get_or-set_other, ne_eqb number (i + 1) apart) (sym (points_none (get_or fresh i no_holding)))
 ]

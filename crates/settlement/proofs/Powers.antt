@@ -13,13 +13,11 @@ module _ (agents : List Agent) (accounts : List Holding) (long : length accounts
   -- all weights together are at most the withdrawn energy of all accounts
   pub power_weights_le : sum (power_weights agents (withdrawn_on accounts)) ≤ all_withdrawn accounts
   power_weights_le =
-      omega (
-        arith,
-        sum_counting (power_weight agents (withdrawn_on accounts)) (length agents),
-        sum_to_mono (length agents) (power_weight agents (withdrawn_on accounts)) (withdrawn_on accounts) (λ i within. counted_le carries (agent_at agents i).role (withdrawn_on accounts i)),
-        ap (λ n. sum_to n (withdrawn_on accounts)) long,
-        sum_by_list (λ (account : Holding). account.second.withdrawn) accounts no_holding,
-      )
+      let all = sum_by_list (λ (account : Holding). account.second.withdrawn) accounts no_holding in
+      let each = sum_to_mono (length agents) (power_weight agents (withdrawn_on accounts)) (withdrawn_on accounts)
+      (λ i within. counted_le carries (agent_at agents i).role (withdrawn_on accounts i)) in
+      let weights = sum_counting (power_weight agents (withdrawn_on accounts)) (length agents) in
+      omega (arith, ap (λ n. sum_to n (withdrawn_on accounts)) long)
 
 -- a part is at most the power due
 pub power_part_le : (agents : List Agent) (withdrawn : ℕ → ℕ) (i : ℕ) → i < length agents → power_part agents withdrawn i ≤ power_due agents

@@ -43,8 +43,7 @@ obligated_on price l = if is_obligated (class_of l.class) then excess_on price l
 
 -- the excess of a line if it is forced, and the agent at place i is its cause
 abbrev pub caused_on : (price i : ℕ) → Line → ℕ
-caused_on price i l =
-    if is_forced (class_of l.class) && l.cause == i + 1 then excess_on price l else 0
+caused_on price i l = if is_forced (class_of l.class) && l.cause == i + 1 then excess_on price l else 0
 
 -- the hour's obligated excess, all lines together
 abbrev pub obligated_sum : Posting → ℕ
@@ -99,8 +98,7 @@ figures_with price l contract caused carried = record {
 
 -- what a posting's own lines give the agent at place i, contracts aside
 abbrev pub own_of : List Agent → Posting → ℕ → Figures
-own_of agents p i =
-    figures_with p.price (line_at p.lines i) (pos 0) (caused_sum p i) (carried_by agents p i)
+own_of agents p i = figures_with p.price (line_at p.lines i) (pos 0) (caused_sum p i) (carried_by agents p i)
 
 -- the residue of an hour: what all withdrawn energy is worth less what all injected energy is
 abbrev pub residue_of : Posting → ℤ

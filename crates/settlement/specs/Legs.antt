@@ -7,8 +7,7 @@ use Rattle.settlement.specs.{declared.agents.Agent.Agent, declared.lines.Line.Li
 
 -- the energy that the agent at a place withdrew, if it is a distributor
 abbrev pub distributed_at : List Agent → List Line → ℕ → ℕ
-distributed_at agents lines j =
-    counted distributes (agent_at agents j).role (line_at lines j).withdrawn
+distributed_at agents lines j = counted distributes (agent_at agents j).role (line_at lines j).withdrawn
 
 -- the energy that all distributors withdrew
 abbrev pub distributors_withdrawn : List Agent → List Line → ℕ

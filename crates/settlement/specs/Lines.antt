@@ -27,8 +27,7 @@ abbrev pub class_kept : ℕ → Option Role → Line → Option Class → Bool
 class_kept count role l None = false
 class_kept count role l (Some Normal) = l.gross == 0 && (l.cost == 0 && l.cause == 0)
 class_kept count role l (Some Obligated) = must_run role l && l.cause == 0
-class_kept count role l (Some Forced) =
-    must_run role l && (nat_le 1 l.cause && nat_le l.cause count)
+class_kept count role l (Some Forced) = must_run role l && (nat_le 1 l.cause && nat_le l.cause count)
 
 -- a line of an agent with this role keeps the rule of its class, in a book of so many agents
 abbrev pub line_kept : ℕ → Option Role → Line → Bool

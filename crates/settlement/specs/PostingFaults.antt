@@ -12,8 +12,7 @@ hour_fault hours hour = met_if (nat_le hours hour) (HourOutside hour)
 
 -- 5 at place 0: another number of lines than agents, or a price above its limit
 abbrev pub head_fault : (count : ℕ) → Posting → Option LineFault
-head_fault count p =
-    met_if (not (length p.lines == count) || nat_lt most_price p.price) (OutsideLimit 0)
+head_fault count p = met_if (not (length p.lines == count) || nat_lt most_price p.price) (OutsideLimit 0)
 
 -- the line at a place has its figures within their limits
 abbrev pub within_at : List Line → ℕ → Bool
@@ -21,8 +20,7 @@ within_at lines i = line_within (line_at lines i)
 
 -- 5: the first line, from 1, with a figure outside its limit
 abbrev pub limit_fault : List Line → Option LineFault
-limit_fault lines =
-    option_map (λ i. OutsideLimit (i + 1)) (first_failing (within_at lines) 0 (length lines))
+limit_fault lines = option_map (λ i. OutsideLimit (i + 1)) (first_failing (within_at lines) 0 (length lines))
 
 -- the line at a place keeps the rule of its class
 abbrev pub kept_at : List Agent → List Line → ℕ → Bool

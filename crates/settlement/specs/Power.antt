@@ -23,8 +23,7 @@ power_weights agents withdrawn = weights_in (length agents) (power_weight agents
 
 -- 11: power is due, and no weight carries it
 abbrev pub power_uncarried : List Agent → (withdrawn : ℕ → ℕ) → Bool
-power_uncarried agents withdrawn =
-    nat_lt 0 (power_due agents) && sum (power_weights agents withdrawn) == 0
+power_uncarried agents withdrawn = nat_lt 0 (power_due agents) && sum (power_weights agents withdrawn) == 0
 
 -- the part of it that the agent at place i carries
 abbrev pub power_part : List Agent → (withdrawn : ℕ → ℕ) → ℕ → ℕ
@@ -42,5 +41,4 @@ charged_at agents accounts i =
 
 -- all accounts with theirs
 abbrev pub accounts_charged : List Agent → List Holding → List Holding
-accounts_charged agents accounts =
-    map (charged_at agents accounts) (range_with_len 0 (length accounts))
+accounts_charged agents accounts = map (charged_at agents accounts) (range_with_len 0 (length accounts))

@@ -29,9 +29,7 @@ first_from fails test start (x ∷ xs) d each =
     let here : fails x ≡ not (test start) = each 0 (omega arith) ∙ ap (λ i. not (test i)) (omega arith) in
     let rest : position_from fails (start + 1) xs ≡ first_failing test (start + 1) (length xs) =
     first_from fails test (start + 1) xs d (λ i within. each (suc i) (omega arith) ∙ ap (λ j. not (test j)) (omega arith)) in
-    ap (λ b. cond b (Some start) (position_from fails (start + 1) xs)) here
-    ∙ not_cond (test start) (Some start) (position_from fails (start + 1) xs)
-    ∙ ap (λ o. cond (test start) o (Some start)) rest
+    rw (here, rest) (not_cond (test start) (Some start) (first_failing test (start + 1) (length xs)))
   where
     not_cond : (test : Bool) (a b : Option ℕ) → cond (not test) a b ≡ cond test b a
     not_cond true a b = refl
@@ -59,32 +57,25 @@ module _ (test : ℕ → Bool) where
   -- and where each passes, no place fails
   pub none_failing : (start n : ℕ) → ((k : ℕ) → start ≤ k → k < start + n → test k ≡ true) → first_failing test start n ≡ None
   none_failing start zero passes = refl
-  none_failing start (suc n) passes =
-      ap (λ b. cond b (first_failing test (start + 1) n) (Some start)) (passes start (omega arith) (omega arith))
-      ∙ none_failing (start + 1) n (λ k low below. passes k (omega arith) (omega arith))
+  none_failing start (suc n) passes = rw (passes start (omega arith) (omega arith))
+      (none_failing (start + 1) n (λ k low below. passes k (omega arith) (omega arith)))
 
   -- the place that fails while those before it pass
   pub failing_at : (start n place : ℕ) → start ≤ place → place < start + n → ((k : ℕ) → start ≤ k → k < place → test k ≡ true) → test place ≡ false →
       first_failing test start n ≡ Some place
   failing_at start zero place after within passes fails = absurd (omega arith)
   failing_at start (suc n) place after within passes fails = elim (cases_eq start place) [
-    | inl here ↦
-        ap (λ b. cond b (first_failing test (start + 1) n) (Some start)) (ap test here ∙ fails) ∙ ap Some here
-    | inr later ↦
-        ap (λ b. cond b (first_failing test (start + 1) n) (Some start)) (passes start (omega arith) (omega arith))
-        ∙ failing_at (start + 1) n place (omega arith) (omega arith) (λ k low below. passes k (omega arith) below) fails
+    | inl here ↦ rw (here, fails)
+    | inr later ↦ rw (passes start (omega arith) (omega arith))
+        (failing_at (start + 1) n place (omega arith) (omega arith) (λ k low below. passes k (omega arith) below) fails)
   ]
 
   -- of the places up to n: the place i passes, so that the rest tells; it is the first that fails; or none is left
   pub first_more : (i n : ℕ) → i < n → test i ≡ true → first_failing test i (n - i) ≡ first_failing test (i + 1) (n - (i + 1))
-  first_more i n within passes =
-      let left : n - i ≡ suc (n - (i + 1)) = omega arith in
-      ap (first_failing test i) left ∙ ap (λ b. cond b (first_failing test (i + 1) (n - (i + 1))) (Some i)) passes
+  first_more i n within passes = let left : n - i ≡ suc (n - (i + 1)) = omega arith in rw (left, passes)
 
   pub first_here : (i n : ℕ) → i < n → test i ≡ false → first_failing test i (n - i) ≡ Some i
-  first_here i n within fails =
-      let left : n - i ≡ suc (n - (i + 1)) = omega arith in
-      ap (first_failing test i) left ∙ ap (λ b. cond b (first_failing test (i + 1) (n - (i + 1))) (Some i)) fails
+  first_here i n within fails = let left : n - i ≡ suc (n - (i + 1)) = omega arith in rw (left, fails)
 
   pub first_none : (i n : ℕ) → n ≤ i → first_failing test i (n - i) ≡ None
   first_none i n past = let left : n - i ≡ 0 = omega arith in ap (first_failing test i) left

@@ -1,5 +1,5 @@
 -- Sums of numbers: whole ones and those with a sign, over places from one on, over those from 0 on, and over the items of a list. Assumes nothing.
-use Rattle.std.proofs.Common.{◌≡◌, ℕ, zero, suc, ◌+◌, ◌*◌, ◌^◌, ◌<◌, ◌≤◌, cond, eqb, List, [], ◌∷◌, ◌++◌, map, length, get_or, set, take, ℤ, pos, ◌+ℤ◌, ◌-ℤ◌, neg_ℤ, nat_abs, sum_by, sum, sym, refl, ap, ◌∙◌, subst, ⊎_elim, suc-mul, arith, w64, SFits}
+use Rattle.std.proofs.Common.{◌≡◌, ℕ, zero, suc, ◌+◌, ◌*◌, ◌^◌, ◌<◌, ◌≤◌, cond, eqb, List, [], ◌∷◌, ◌++◌, map, length, get_or, set, take, ℤ, pos, ◌+ℤ◌, ◌-ℤ◌, neg_ℤ, nat_abs, sum_by, sum, sym, refl, ap, ◌∙◌, ⊎_elim, suc-mul, arith, w64, SFits}
 use lib.IntN.{+ℤ_idl, +ℤ_comm, +ℤ_assoc}
 use Rattle.std.specs.List.{All, range_with_len, swap, zip, Sorted.IsPermutation}
 use Rattle.std.proofs.lemmas.{Bool.cases_eq, Bool.cond-true, Bool.cond-false, Bool.eq-eqb, Bool.ne_eqb, Int.ints, List.length-map, List.length-set, List.get_or-map, List.get_or-set_same, List.get_or-set_other, List.Elements.All-head, List.Elements.All-tail, List.FromFn.fill_by_all, List.FromFn.length-range_with_len, List.FromFn.length-map-range_with_len, List.FromFn.get_or-map-range_with_len, List.Sorted.IsPermutation-keeps, List.Sums.sum-map, Slice.Zip.length-zip, Slice.Zip.get_or-zip}
@@ -14,25 +14,22 @@ int_lawful = record { identity = +ℤ_idl; commutative = +ℤ_comm; associative 
 
 -- ---- bounds
 
-nat_total_le : {X : Type 0} (f : X → ℕ) (most : ℕ) (xs : List X) → All (λ x. f x ≤ most) xs → total 0 ◌+◌ (map f xs) ≤ length xs * most
-nat_total_le f most [] each = omega arith
-nat_total_le f most (x ∷ xs) each =
-    omega (arith, suc-mul (length xs) most, All-head (λ x. f x ≤ most) x xs each, nat_total_le f most xs (All-tail (λ x. f x ≤ most) x xs each))
-
 -- the size of a sum, whatever its sign
 pub int_sum_by_abs : {X : Type 0} (f : X → ℤ) (most : ℕ) (xs : List X) → All (λ x. nat_abs (f x) ≤ most) xs → nat_abs (int_sum_by f xs) ≤ length xs * most
 int_sum_by_abs f most [] each = omega arith
 int_sum_by_abs f most (x ∷ xs) each =
     omega (arith, ints, suc-mul (length xs) most, All-head (λ x. nat_abs (f x) ≤ most) x xs each, int_sum_by_abs f most xs (All-tail (λ x. nat_abs (f x) ≤ most) x xs each))
 
+pub int_sum_over_abs : (start n : ℕ) (f : ℕ → ℤ) (most : ℕ) → ((k : ℕ) → start ≤ k → k < start + n → nat_abs (f k) ≤ most) → nat_abs (int_sum_over start n f) ≤ n * most
+int_sum_over_abs start n f most each = rw (length-range_with_len start n) at
+    (int_sum_by_abs f most (range_with_len start n) (All-places (λ k. nat_abs (f k) ≤ most) start n each))
+
+pub int_sum_over_pos : (start n : ℕ) (f : ℕ → ℕ) → pos (nat_sum_over start n f) ≡ int_sum_over start n (λ k. pos (f k))
+int_sum_over_pos = total_over_map 0 ◌+◌ (pos 0) ◌+ℤ◌ pos refl (λ x y. omega (arith, ints))
+
 pub nat_sum_over_le : (start n : ℕ) (f : ℕ → ℕ) (most : ℕ) → ((k : ℕ) → start ≤ k → k < start + n → f k ≤ most) → nat_sum_over start n f ≤ n * most
 nat_sum_over_le start n f most each =
-    subst (λ m. nat_sum_over start n f ≤ m * most) (length-range_with_len start n) (nat_total_le f most (range_with_len start n) (All-places (λ k. f k ≤ most) start n each))
-
-pub int_sum_over_abs : (start n : ℕ) (f : ℕ → ℤ) (most : ℕ) → ((k : ℕ) → start ≤ k → k < start + n → nat_abs (f k) ≤ most) → nat_abs (int_sum_over start n f) ≤ n * most
-int_sum_over_abs start n f most each =
-    subst (λ m. nat_abs (int_sum_over start n f) ≤ m * most) (length-range_with_len start n)
-    (int_sum_by_abs f most (range_with_len start n) (All-places (λ k. nat_abs (f k) ≤ most) start n each))
+    omega (arith, ints, int_sum_over_pos start n f, int_sum_over_abs start n (λ k. pos (f k)) most each)
 
 -- no larger item by item, no larger together
 pub nat_sum_over_mono : (start n : ℕ) (f g : ℕ → ℕ) → ((k : ℕ) → start ≤ k → k < start + n → f k ≤ g k) → nat_sum_over start n f ≤ nat_sum_over start n g
@@ -48,9 +45,6 @@ fits_abs z small = omega (arith, ints)
 
 pub int_sum_over_neg : (start n : ℕ) (f : ℕ → ℤ) → int_sum_over start n (λ k. neg_ℤ (f k)) ≡ neg_ℤ (int_sum_over start n f)
 int_sum_over_neg start n f = sym (total_over_map (pos 0) ◌+ℤ◌ (pos 0) ◌+ℤ◌ neg_ℤ refl (λ x y. omega (arith, ints)) start n f)
-
-pub int_sum_over_pos : (start n : ℕ) (f : ℕ → ℕ) → pos (nat_sum_over start n f) ≡ int_sum_over start n (λ k. pos (f k))
-int_sum_over_pos start n f = total_over_map 0 ◌+◌ (pos 0) ◌+ℤ◌ pos refl (λ x y. omega (arith, ints)) start n f
 
 -- a sum of differences
 pub int_sum_over_less : (start n : ℕ) (f g : ℕ → ℕ) → int_sum_over start n (λ k. pos (f k) -ℤ pos (g k)) ≡ pos (nat_sum_over start n f) -ℤ pos (nat_sum_over start n g)
@@ -121,13 +115,10 @@ sum_to_ℤ_change n f g k within others =
 pub sum_to_spare : (n : ℕ) (f g : ℕ → ℕ) (k : ℕ) → k < n → ((j : ℕ) → j < n → f j ≤ g j) → f k ≡ 0 → g k + sum_to n f ≤ sum_to n g
 sum_to_spare n f g k within each none =
     let moved : ℕ → ℕ = λ j. cond (eqb j k) (g k) (f j) in
-    let same : sum_to n moved + f k ≡ sum_to n f + moved k =
-    sum_to_change n f moved k within (λ h below other. cond-false (eqb h k) (g k) (f h) (ne_eqb h k other)) in
-    let here : moved k ≡ g k = cond-true (eqb k k) (g k) (f k) (eq-eqb k k refl) in
     omega (
       arith,
-      same,
-      here,
+      sum_to_change n f moved k within (λ h below other. cond-false (eqb h k) (g k) (f h) (ne_eqb h k other)),
+      cond-true (eqb k k) (g k) (f k) (eq-eqb k k refl),
       sum_to_mono n moved g (λ j below. ⊎_elim
           (λ (is : j ≡ k). omega (arith, cond-true (eqb j k) (g k) (f j) (eq-eqb j k is), ap g is))
           (λ (other : j ≡ k → ⊥). omega (arith, cond-false (eqb j k) (g k) (f j) (ne_eqb j k other), each j below))

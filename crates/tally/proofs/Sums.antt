@@ -1,5 +1,5 @@
 -- Sums, once over the laws of a tally: over the items of a list, and over places from one on. Assumes nothing.
-use Rattle.std.proofs.Common.{◌≡◌, ℕ, zero, suc, ◌+◌, ◌<◌, ◌≤◌, Bool, true, List, [], ◌∷◌, ◌++◌, map, length, get_or, set, take, sym, refl, ap, ◌∙◌, subst, inl, inr, arith}
+use Rattle.std.proofs.Common.{◌≡◌, ℕ, zero, suc, ◌+◌, ◌<◌, ◌≤◌, Bool, true, List, [], ◌∷◌, ◌++◌, map, length, get_or, set, take, sym, refl, ap, ◌∙◌, inl, inr, arith}
 use Rattle.std.specs.List.{All, list_all, range_with_len}
 use Rattle.std.proofs.lemmas.{Bool.cases_eq, List.take_more, List.Elements.All-head, List.Elements.All-tail, List.Elements.All-from_get_or, List.Elements.All-weaker, List.FromFn.length-range_with_len, List.FromFn.get_or-range_with_len, List.FromFn.map-range_with_len_more, List.Sums.AllPass-from_list_all}
 use Rattle.tally.specs.{Lawful.Lawful, Total.total, Total.total_over}
@@ -7,10 +7,9 @@ use Rattle.tally.proofs.Totals.{right_identity, total_append}
 
 -- what is so of each place is so of all of them
 pub All-places : (P : ℕ → Type 0) (start n : ℕ) → ((k : ℕ) → start ≤ k → k < start + n → P k) → All P (range_with_len start n)
-All-places P start n each =
-    All-from_get_or P (range_with_len start n) 0 (λ i within.
+All-places P start n each = All-from_get_or P (range_with_len start n) 0 (λ i within.
     let below : i < n = omega (arith, within, length-range_with_len start n) in
-    subst P (sym (get_or-range_with_len start n i 0 below)) (each (start + i) (omega arith) (omega arith)))
+    rw (get_or-range_with_len start n i 0 below) (each (start + i) (omega arith) (omega arith)))
 
 -- what follows from a test is so of all items that pass it
 pub All-passing : {X : Type 0} (test : X → Bool) (P : X → Type 0) (xs : List X) → list_all test xs ≡ true → ((x : X) → test x ≡ true → P x) → All P xs
@@ -31,12 +30,13 @@ module _ {T : Type 0} {nothing : T} {joined : T → T → T} (laws : Lawful noth
   total_of_none f (x ∷ xs) none =
       cc (All-head (λ x. f x ≡ nothing) x xs none, total_of_none f xs (All-tail (λ x. f x ≡ nothing) x xs none), laws.identity nothing)
 
+  exchanged : (a b c : T) → joined a (joined b c) ≡ joined b (joined a c)
+  exchanged a b c = sym (laws.associative a b c) ∙ ap (λ t. joined t c) (laws.commutative a b) ∙ laws.associative b a c
+
   -- two pairs, joined crosswise
   crossed : (a b c d : T) → joined (joined a b) (joined c d) ≡ joined (joined a c) (joined b d)
   crossed a b c d =
-      laws.associative a b (joined c d)
-      ∙ ap (joined a) (sym (laws.associative b c d) ∙ ap (λ t. joined t d) (laws.commutative b c) ∙ laws.associative c b d)
-      ∙ sym (laws.associative a c (joined b d))
+      laws.associative a b (joined c d) ∙ ap (joined a) (exchanged b c d) ∙ sym (laws.associative a c (joined b d))
 
   -- joined summands
   pub total_of_joined : {X : Type 0} (f g : X → T) (xs : List X) →
@@ -60,24 +60,17 @@ module _ {T : Type 0} {nothing : T} {joined : T → T → T} (laws : Lawful noth
 
   pub total_of_more : {X : Type 0} (f : X → T) (xs : List X) (i : ℕ) (d : X) → i < length xs →
       total nothing joined (map f (take (i + 1) xs)) ≡ joined (total nothing joined (map f (take i xs))) (f (get_or xs i d))
-  total_of_more f xs i d within =
-      ap (λ ys. total nothing joined (map f ys)) (take_more xs i d within)
-      ∙ total_of_append f (take i xs) (get_or xs i d ∷ [])
-      ∙ ap (joined _) (right_identity laws (f (get_or xs i d)))
+  total_of_more f xs i d within = rw (take_more xs i d within)
+      (total_of_append f (take i xs) (get_or xs i d ∷ []) ∙ ap (joined _) (right_identity laws (f (get_or xs i d))))
 
   -- one item changed for another
   pub total_of_set : {X : Type 0} (f : X → T) (xs : List X) (i : ℕ) (x d : X) → i < length xs →
       joined (f (get_or xs i d)) (total nothing joined (map f (set xs i x))) ≡ joined (f x) (total nothing joined (map f xs))
   total_of_set f [] i x d within = absurd (omega arith)
-  total_of_set f (y ∷ ys) zero x d within =
-      sym (laws.associative _ _ _) ∙ ap (λ t. joined t (total nothing joined (map f ys))) (laws.commutative (f y) (f x)) ∙ laws.associative _ _ _
+  total_of_set f (y ∷ ys) zero x d within = exchanged (f y) (f x) _
   total_of_set f (y ∷ ys) (suc i) x d within =
-      exchanged (f (get_or ys i d)) (f y) _
-      ∙ ap (joined (f y)) (total_of_set f ys i x d (omega arith))
+      exchanged (f (get_or ys i d)) (f y) _ ∙ ap (joined (f y)) (total_of_set f ys i x d (omega arith))
       ∙ exchanged (f y) (f x) _
-    where
-      exchanged : (a b c : T) → joined a (joined b c) ≡ joined b (joined a c)
-      exchanged a b c = sym (laws.associative a b c) ∙ ap (λ t. joined t c) (laws.commutative a b) ∙ laws.associative b a c
 
   -- ---- over the n places from `start` on
 
@@ -97,32 +90,21 @@ module _ {T : Type 0} {nothing : T} {joined : T → T → T} (laws : Lawful noth
 
   -- one place more at the end
   pub total_over_more : (start n : ℕ) (f : ℕ → T) → total_over nothing joined start (n + 1) f ≡ joined (total_over nothing joined start n f) (f (start + n))
-  total_over_more start n f =
-      ap (total nothing joined) (map-range_with_len_more f start n (start + n) refl)
-      ∙ total_append laws (map f (range_with_len start n)) (f (start + n) ∷ [])
-      ∙ ap (joined _) (right_identity laws (f (start + n)))
+  total_over_more start n f = rw (map-range_with_len_more f start n (start + n) refl)
+      (total_append laws (map f (range_with_len start n)) (f (start + n) ∷ [])
+      ∙ ap (joined _) (right_identity laws (f (start + n))))
 
   -- some places, and then those that follow
   pub total_over_append : (start n m : ℕ) (f : ℕ → T) →
       total_over nothing joined start (n + m) f ≡ joined (total_over nothing joined start n f) (total_over nothing joined (start + n) m f)
-  total_over_append start zero m f = (λ t. total_over nothing joined (places t) (counted t) f) ∙ sym (laws.identity _)
-    where
-      places : start ≡ start + 0
-      places = omega arith
-
-      counted : 0 + m ≡ m
-      counted = omega arith
+  total_over_append start zero m f =
+      let places : start + 0 ≡ start = omega arith in
+      let counted : 0 + m ≡ m = omega arith in
+      rw (places, counted) (sym (laws.identity _))
   total_over_append start (suc n) m f =
-      (λ t. total_over nothing joined start (counted t) f)
-      ∙ ap (joined (f start)) (total_over_append (start + 1) n m f)
-      ∙ sym (laws.associative _ _ _)
-      ∙ (λ t. joined (total_over nothing joined start (suc n) f) (total_over nothing joined (places t) m f))
-    where
-      counted : suc n + m ≡ suc (n + m)
-      counted = omega arith
-
-      places : start + 1 + n ≡ start + suc n
-      places = omega arith
+      let places : start + suc n ≡ start + 1 + n = omega arith in
+      let counted : suc n + m ≡ suc (n + m) = omega arith in
+      rw (places, counted) (ap (joined (f start)) (total_over_append (start + 1) n m f) ∙ sym (laws.associative _ _ _))
 
   -- one summand changed
   pub total_over_changed : (start n : ℕ) (f g : ℕ → T) (k : ℕ) → start ≤ k → k < start + n → ((h : ℕ) → start ≤ h → h < start + n → (h ≡ k → ⊥) → g h ≡ f h) →
@@ -131,15 +113,14 @@ module _ {T : Type 0} {nothing : T} {joined : T → T → T} (laws : Lawful noth
   total_over_changed start (suc n) f g k after within others = elim (cases_eq k start) [
     | inl here ↦
         let rest = total_over_same (start + 1) n g f (λ h low below. others h (omega arith) (omega arith) (λ e. omega arith)) in
-        (λ t. joined (joined (g (sym here t)) (rest t)) (f k)) ∙ turned (g k) _ (f k) ∙ (λ t. joined (joined (f (here t)) (total_over nothing joined (start + 1) n f)) (g k))
+        (λ t. joined (joined (g (sym here t)) (rest t)) (f k))
+        ∙ laws.commutative _ (f k) ∙ exchanged (f k) (g k) _ ∙ laws.commutative (g k) _
+        ∙ (λ t. joined (joined (f (here t)) (total_over nothing joined (start + 1) n f)) (g k))
     | inr later ↦
         laws.associative _ _ _
         ∙ (λ t. joined (others start (omega arith) (omega arith) (λ e. later (sym e)) t) (total_over_changed (start + 1) n f g k (omega arith) (omega arith) (λ h low below. others h (omega arith) (omega arith)) t))
         ∙ sym (laws.associative _ _ _)
   ]
-    where
-      turned : (a b c : T) → joined (joined a b) c ≡ joined (joined c b) a
-      turned a b c = laws.associative a b c ∙ laws.commutative a (joined b c) ∙ ap (λ t. joined t a) (laws.commutative b c)
 
 -- a function that keeps none and joins goes through a total
 module _ {T U : Type 0} (nothing : T) (joined : T → T → T) (none : U) (together : U → U → U)

@@ -38,8 +38,8 @@ module _ {T : Type 0} {nothing : T} {joined : T → T → T} (laws : Lawful noth
       let rest = total nothing joined xs in
       ap (λ t. joined t new) (ap (λ y. joined (joined y rest) out) read ∙ taken_out old out rest cancels) ∙ laws.commutative rest new
   total_set (x ∷ xs) (suc i) old out new cancels within read =
-      let rest = total nothing joined xs in
-      ap (λ t. joined t new) (laws.associative x rest out) ∙ laws.associative x (joined rest out) new ∙ ap (joined x) (total_set xs i old out new cancels (le_of_suc-le-suc within) read)
+      ap (λ t. joined t new) (laws.associative x _ out) ∙ laws.associative x _ new
+      ∙ ap (joined x) (total_set xs i old out new cancels (le_of_suc-le-suc within) read)
 
   -- of the days from one on, each joined: all that is left from its first hour on
   days_from : (n day : ℕ) (month : List T) → length month ≤ 24 * (day + n) →

@@ -14,26 +14,14 @@ energy_same x y p q i = record {
   withdrawn_fits = is_prop→PathP (λ k. q k < 2 ^ 64) (λ k. le_prop) x.withdrawn_fits y.withdrawn_fits i;
 }
 
-pub energy_of_joined : (a b a' b' : ℕ) →
-    energy_joined (energy_of a b) (energy_of a' b') ≡ energy_of (a + a') (b + b')
-energy_of_joined a b a' b' =
-    energy_same _ _ (sym (add-mod a a' (2 ^ 64))) (sym (add-mod b b' (2 ^ 64)))
-
-energy_identity : (x : Energy) → energy_joined no_energy x ≡ x
-energy_identity x = energy_same _ x (omega arith) (omega arith)
-
-energy_commutative : (x y : Energy) → energy_joined x y ≡ energy_joined y x
-energy_commutative x y = energy_same _ _ (omega arith) (omega arith)
-
-energy_associative : (x y z : Energy) →
-    energy_joined (energy_joined x y) z ≡ energy_joined x (energy_joined y z)
-energy_associative x y z = energy_same _ _ (omega arith) (omega arith)
+pub energy_of_joined : (a b a' b' : ℕ) → energy_joined (energy_of a b) (energy_of a' b') ≡ energy_of (a + a') (b + b')
+energy_of_joined a b a' b' = energy_same _ _ (sym (add-mod a a' (2 ^ 64))) (sym (add-mod b b' (2 ^ 64)))
 
 pub energy_lawful : Lawful no_energy energy_joined
 energy_lawful = record {
-  identity = energy_identity;
-  commutative = energy_commutative;
-  associative = energy_associative;
+  identity = λ x. energy_same _ x (omega arith) (omega arith);
+  commutative = λ x y. energy_same _ _ (omega arith) (omega arith);
+  associative = λ x y z. energy_same _ _ (omega arith) (omega arith);
 }
 
 pub energy_cancels : (x : Energy) → energy_joined x (energy_undone x) ≡ no_energy

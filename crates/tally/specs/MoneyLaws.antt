@@ -2,7 +2,7 @@
 use Rattle.std.specs.Prelude.{◌≡◌, ◌^◌, ◌<◌, ℤ, pos, ◌+ℤ◌, neg_ℤ}
 use Rattle.std.proofs.Common.{sym, ap, ◌∙◌}
 use mathlib.Core.HLevel.{is_prop→PathP}
-use Rattle.std.proofs.Math.{Bridge.le_prop, IntN.+ℤ_idl}
+use Rattle.std.proofs.Math.{Bridge.le_prop, IntN.+ℤ_idl, IntN.+ℤ_assoc}
 use Rattle.std.proofs.lemmas.Int.{int_wrap_fits, int_wrap-add_left, int_wrap-add_right, int_wrap-sub_right}
 use Rattle.std.specs.Int.{Signed.mag, int_wrap, w64}
 use Rattle.tally.specs.{Lawful.Lawful, Lines.Lines, Lines.line_on, Lines.lines_by, Lines.no_lines, Lines.lines_joined, Lines.lines_undone, LinesLaws.lines_lawful, LinesLaws.lines_cancel, Money.money_of, Money.lines_of, Money.no_money, Money.money_joined, Money.money_undone, declared.money.Money.Money}
@@ -23,8 +23,7 @@ money_same x y same i = record {
 -- the same, line by line
 pub money_each : (x y : Money) →
     x.market ≡ y.market → x.contract ≡ y.contract → x.overcost ≡ y.overcost → x.power ≡ y.power → x ≡ y
-money_each x y m c o p =
-    money_same x y (λ i. record { market = m i; contract = c i; overcost = o i; power = p i })
+money_each x y m c o p = money_same x y (λ i. record { market = m i; contract = c i; overcost = o i; power = p i })
 
 -- a number that fits is itself, wrapped
 fits : (z : ℤ) → mag z < 2 ^ 63 → int_wrap w64 z ≡ z
@@ -39,10 +38,12 @@ money_of_lines m =
 wrapped_add : (a b : ℤ) → int_wrap w64 (int_wrap w64 a +ℤ int_wrap w64 b) ≡ int_wrap w64 (a +ℤ b)
 wrapped_add a b = int_wrap-add_left w64 a (int_wrap w64 b) ∙ int_wrap-add_right w64 a b
 
-pub money_of_joined : (x y : Lines) →
-    money_joined (money_of x) (money_of y) ≡ money_of (lines_joined x y)
-money_of_joined x y =
-    money_same _ _ (λ i. lines_by (λ line. wrapped_add (line_on line x) (line_on line y) i))
+regrouped : (a b c : ℤ) → int_wrap w64 (int_wrap w64 (a +ℤ b) +ℤ c) ≡ int_wrap w64 (a +ℤ int_wrap w64 (b +ℤ c))
+regrouped a b c =
+    int_wrap-add_left w64 (a +ℤ b) c ∙ ap (int_wrap w64) (+ℤ_assoc a b c) ∙ sym (int_wrap-add_right w64 a (b +ℤ c))
+
+pub money_of_joined : (x y : Lines) → money_joined (money_of x) (money_of y) ≡ money_of (lines_joined x y)
+money_of_joined x y = money_same _ _ (λ i. lines_by (λ line. wrapped_add (line_on line x) (line_on line y) i))
 
 -- the opposite of a number, wrapped before or after
 wrapped_neg : (a : ℤ) → int_wrap w64 (neg_ℤ (int_wrap w64 a)) ≡ int_wrap w64 (neg_ℤ a)
@@ -52,29 +53,15 @@ wrapped_neg a =
 pub money_of_undone : (x : Lines) → money_undone (money_of x) ≡ money_of (lines_undone x)
 money_of_undone x = money_same _ _ (λ i. lines_by (λ line. wrapped_neg (line_on line x) i))
 
-money_identity : (x : Money) → money_joined no_money x ≡ x
-money_identity x =
-    ap (money_joined no_money) (sym (money_of_lines x)) ∙ money_of_joined no_lines (lines_of x)
-    ∙ ap money_of (lines_lawful.identity (lines_of x)) ∙ money_of_lines x
-
-money_associative : (x y z : Money) →
-    money_joined (money_joined x y) z ≡ money_joined x (money_joined y z)
-money_associative x y z =
-    let a = lines_of x in
-    let b = lines_of y in
-    let c = lines_of z in
-    ap (money_joined (money_joined x y)) (sym (money_of_lines z)) ∙ money_of_joined (lines_joined a b) c
-    ∙ ap money_of (lines_lawful.associative a b c)
-    ∙ sym (money_of_joined a (lines_joined b c)) ∙ ap (λ t. money_joined t (money_joined y z)) (money_of_lines x)
-
 pub money_lawful : Lawful no_money money_joined
 money_lawful = record {
-  identity = money_identity;
+  identity = λ x. ap (money_joined no_money) (sym (money_of_lines x)) ∙ money_of_joined no_lines (lines_of x)
+      ∙ ap money_of (lines_lawful.identity (lines_of x)) ∙ money_of_lines x;
   commutative = λ x y. ap money_of (lines_lawful.commutative (lines_of x) (lines_of y));
-  associative = money_associative;
+  associative = λ x y z. money_same _ _ (λ i. lines_by (λ line.
+      regrouped (line_on line (lines_of x)) (line_on line (lines_of y)) (line_on line (lines_of z)) i));
 }
 
 pub money_cancels : (x : Money) → money_joined x (money_undone x) ≡ no_money
-money_cancels x =
-    ap (λ t. money_joined t (money_undone x)) (sym (money_of_lines x)) ∙ money_of_joined (lines_of x) (lines_undone (lines_of x))
-    ∙ ap money_of (lines_cancel (lines_of x))
+money_cancels x = ap (λ t. money_joined t (money_undone x)) (sym (money_of_lines x))
+    ∙ money_of_joined (lines_of x) (lines_undone (lines_of x)) ∙ ap money_of (lines_cancel (lines_of x))

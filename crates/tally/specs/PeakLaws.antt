@@ -14,18 +14,9 @@ peak_same x y p q i = record {
   idle = is_prop→PathP (λ k. p k ≡ 0 → q k ≡ 0) (λ k f g. λ j h. ℕ_set _ _ (f h) (g h) j) x.idle y.idle i;
 }
 
-peak_identity : (x : Peak) → peak_joined no_peak x ≡ x
-peak_identity x = peak_same _ x (grind (arith, nat_tests)) (grind (arith, nat_tests))
-
-peak_commutative : (x y : Peak) → peak_joined x y ≡ peak_joined y x
-peak_commutative x y = peak_same _ _ (grind (arith, nat_tests)) (grind (arith, nat_tests))
-
-peak_associative : (x y z : Peak) → peak_joined (peak_joined x y) z ≡ peak_joined x (peak_joined y z)
-peak_associative x y z = grind (arith, nat_tests)
-
 pub peak_lawful : Lawful no_peak peak_joined
 peak_lawful = record {
-  identity = peak_identity;
-  commutative = peak_commutative;
-  associative = peak_associative;
+  identity = λ x. peak_same _ x (grind (arith, nat_tests)) (grind (arith, nat_tests));
+  commutative = λ x y. peak_same _ _ (grind (arith, nat_tests)) (grind (arith, nat_tests));
+  associative = λ x y z. grind (arith, nat_tests);
 }

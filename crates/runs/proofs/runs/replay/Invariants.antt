@@ -1,4 +1,4 @@
-use Rattle.std.proofs.Common.{◌≡◌, ◌≤◌, ◌++◌, length, map, take, drop}
+use Rattle.std.proofs.Common.{◌≡◌, ◌++◌, length, map, take, drop}
 use Rattle.runs.specs.{Lent.SameLoan, Reading.request_of, Reading.figures_in, Runs.kept_in, Runs.answers_to, Runs.kept_after}
 use Rattle.runs.proofs.runs.replay.Given as goal
 

@@ -1,4 +1,4 @@
-use Rattle.std.proofs.Common.{◌≡◌, ◌+◌, ◌%◌, ◌^◌, ℤ, ◌+ℤ◌, ap, sym, ◌∙◌, rules, w64, to_z, of_z}
+use Rattle.std.proofs.Common.{◌≡◌, ◌+◌, ◌%◌, ◌^◌, ◌+ℤ◌, ap, sym, ◌∙◌, rules, w64, to_z, of_z}
 use Rattle.std.specs.Int.{int_wrap}
 use Rattle.std.proofs.lemmas.{Int.wraps, Int.int_wrap-add_left, List.get_or_read}
 use Rattle.tally.specs.Sums.{sum_to_ℤ}

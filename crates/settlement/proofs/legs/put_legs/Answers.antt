@@ -13,12 +13,10 @@ loop-number-init c i within = sym (points_none (get_or c.args.fresh.now i no_hol
 pub put_leg-requires : goal.put_leg-requires
 put_leg-requires c =
     let k = c.loop-number.number-index in
-    let numbers = party_numbers c.args.contract in
-    let number : (get_or c.legs_by_party.result k (0, pos 0)).0 ≡ get_or numbers k 0 =
-    ap (λ (legs : List (ℕ × ℤ)). (get_or legs k (0, pos 0)).0) c.legs_by_party.ensures
-    ∙ ap (λ (leg : ℕ × ℤ). leg.0) (get_or-zip numbers (points_of c.args.legs) k (0, pos 0) c.loop-number-test.true c.loop-number-test.true) in
-    let known = c.requires.known k 0 c.loop-number-test.true in
-    record { some = omega (arith, known.0, number); known = omega (arith, known.1, number, c.loop-number.auto.fresh) }
+    let within = c.loop-number-test.true in
+    let known = c.requires.known k 0 within in
+    rw (c.legs_by_party.ensures, get_or-zip (party_numbers c.args.contract) (points_of c.args.legs) k (0, pos 0) within within)
+    (record { some = known.0; known = omega (arith, known.1, c.loop-number.auto.fresh) })
 
 pub loop-number-preserved : goal.loop-number-preserved
 loop-number-preserved c i within =
@@ -28,9 +26,8 @@ loop-number-preserved c i within =
     let one : ℕ × ℤ → ℤ = λ leg. cond (eqb leg.0 (i + 1)) leg.1 (pos 0) in
     let none : ℕ × ℤ = (0, pos 0) in
     let leg : ℕ × ℤ = get_or legs k none in
-    let points : leg.1 ≡ get_or (points_of c.args.legs) k (pos 0) =
-    ap (λ (x : ℕ × ℤ). x.1) (get_or-zip (party_numbers c.args.contract) (points_of c.args.legs) k none c.loop-number-test.true c.loop-number-test.true) in
-    let small : nat_abs leg.1 ≤ most_leg = subst (λ (z : ℤ). nat_abs z ≤ most_leg) (sym points) (c.requires.balanced.within k (pos 0) c.loop-number-test.true) in
+    let at = get_or-zip (party_numbers c.args.contract) (points_of c.args.legs) k none c.loop-number-test.true c.loop-number-test.true in
+    let small : nat_abs leg.1 ≤ most_leg = rw at (c.requires.balanced.within k (pos 0) c.loop-number-test.true) in
     let before : Holding = get_or c.loop-number.fresh i no_holding in
     c.put_leg.ensures i (omega (arith, c.loop-number.auto.fresh))
     ∙ ap (λ (ls : List (ℕ × ℤ)). with_points (cond (eqb (get_or ls k none).0 (i + 1)) (to_z w64 (of_z w64 (get_or ls k none).1)) (pos 0)) before) c.legs_by_party.ensures

@@ -6,34 +6,22 @@ use Rattle.settlement.proofs.power.charge_parts.Goals as goal
 
 pub put_power-requires : goal.put_power-requires
 put_power-requires c =
-    let agents = c.args.agents.now in
     let withdrawn = withdrawn_on c.args.accounts.now in
-    record {
-      credit_within = omega (arith, c.power_credit.ensures.bound);
-      debit_within =
-          omega (
-            arith,
-            power_part_read agents withdrawn c.args.parts.now c.loop-i.i c.requires.shared,
-            power_part_le agents withdrawn c.loop-i.i c.loop-i-test.true,
-            c.requires.due_within,
-          );
-    }
+    let read = power_part_read c.args.agents.now withdrawn c.args.parts.now c.loop-i.i c.requires.shared in
+    let least = power_part_le c.args.agents.now withdrawn c.loop-i.i c.loop-i-test.true in
+    record { credit_within = omega arith; debit_within = omega arith }
 
 pub loop-i-preserved : goal.loop-i-preserved
 loop-i-preserved c =
     let agents = c.args.agents.now in
     let accounts = c.args.accounts.now in
     let i = c.loop-i.i in
-    let old = get_or accounts i no_holding in
-    let part = get_or c.args.parts.now i 0 in
     let lt : i < length c.loop-i.accounts = omega (arith, c.loop-i.auto.accounts, c.requires.accounts_long, c.loop-i-test.true) in
-    let read : get_or c.loop-i.accounts i c.index-accounts-i.result ≡ old =
+    let read : get_or c.loop-i.accounts i c.index-accounts-i.result ≡ get_or accounts i no_holding =
     get_or_default c.loop-i.accounts i c.index-accounts-i.result no_holding lt ∙ c.loop-i.invariant.1 i (omega arith) in
+    let part = power_part_read agents (withdrawn_on accounts) c.args.parts.now i c.requires.shared in
     let made : c.put_power.new.account ≡ charged_at agents accounts i =
-    c.put_power.ensures
-    ∙ ap (λ account. holding_joined account (power_points (pos c.power_credit.result -ℤ pos part))) read
-    ∙ ap (λ n. holding_joined old (power_points (pos n -ℤ pos part))) c.power_credit.ensures.value
-    ∙ ap (λ n. holding_joined old (power_points (pos (power_credit agents i) -ℤ pos n))) (power_part_read agents (withdrawn_on accounts) c.args.parts.now i c.requires.shared) in (
+    c.put_power.ensures ∙ (λ t. holding_joined (read t) (power_points (pos (c.power_credit.ensures.value t) -ℤ pos (part t)))) in (
       below_more _ _
           (λ k h. let ne : k ≢ i = omega arith in rw get_or-set_other (c.loop-i.invariant.0 k h))
           (get_or-set_same c.loop-i.accounts i c.put_power.new.account no_holding lt ∙ made),

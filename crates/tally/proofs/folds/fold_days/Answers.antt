@@ -13,6 +13,6 @@ pub returns-clause-by_days : goal.returns-clause-by_days
 returns-clause-by_days g c days few =
     let t = g.T.Tally in
     let none : chunks_rest c.loop-day.day-iterator ≡ [] = drop_all 0 (chunks_rest c.loop-day.day-iterator) (omega (arith, c.in-None.ensures.steps.1)) in
-    let all : c.loop-day.sum ≡ total t.nothing t.joined c.args.month.now =
-    sym (right_identity g.met.T.Tally.lawful c.loop-day.sum) ∙ ap (λ rest. t.joined c.loop-day.sum (total t.nothing t.joined rest)) (sym none) ∙ c.loop-day.invariant in
-    all ∙ total_days g.met.T.Tally.lawful days c.args.month.now few
+    sym (right_identity g.met.T.Tally.lawful c.loop-day.sum)
+    ∙ ap (λ rest. t.joined c.loop-day.sum (total t.nothing t.joined rest)) (sym none)
+    ∙ c.loop-day.invariant ∙ total_days g.met.T.Tally.lawful days c.args.month.now few

@@ -7,18 +7,13 @@ use Rattle.settlement.proofs.legs.HourSetting.legs_of.Goals as goal
 pub new-hour-requires : goal.new-hour-requires
 new-hour-requires g c =
     let hour = c.args.self.now in
-    let form : Meaning = g.F.ContractForm.meaning hour.setting.now.form.now in
-    let setting : Setting = setting_of form hour.setting.now in
-    let p : Posting = posting_of hour.posting in
-    let settled = subst (λ (x : Parties × Facts). MayAsk form c.args.contract x.0 x.1)
-    (λ t. (sym c.parties-parties.ensures t, sym c.facts.ensures t))
-    (settles setting p c.args.contract hour.setting.now.few_days (sym hour.agents_long) hour.fits c.requires) in
+    let setting : Setting = setting_of (g.F.ContractForm.meaning hour.setting.now.form.now) hour.setting.now in
+    let settled : MayAsk setting.form c.args.contract c.parties-parties.result c.facts.result = rw (c.parties-parties.ensures, c.facts.ensures)
+    (settles setting (posting_of hour.posting) c.args.contract hour.setting.now.few_days (sym hour.agents_long) hour.fits c.requires) in
     record { valid = settled.valid; measured = settled.measured }
 
 pub settle_hour-requires : goal.settle_hour-requires
 settle_hour-requires g c =
     let hour = c.args.self.now in
-    let form : Meaning = g.F.ContractForm.meaning hour.setting.now.form.now in
-    let setting : Setting = setting_of form hour.setting.now in
-    ap (λ (x : Contract × Parties). form.takes x.0 x.1) (λ t. (c.new-hour.ensures.terms t, (c.new-hour.ensures.parties ∙ c.parties-parties.ensures) t))
-    ∙ (fitting setting c.args.contract c.requires).taken
+    let setting : Setting = setting_of (g.F.ContractForm.meaning hour.setting.now.form.now) hour.setting.now in
+    rw (c.new-hour.ensures.terms, c.new-hour.ensures.parties, c.parties-parties.ensures) (fitting setting c.args.contract c.requires).taken

@@ -9,8 +9,8 @@ pub sum-requires-clause-can : goal.sum-requires-clause-can
 sum-requires-clause-can c =
     let p : Posting = posting_of c.args.self.now.posting in (
       tt,
-      serves_from_places (YieldsList-from_slice p.lines cc) (λ x q k. search rules)
-          (λ x k below is. let within : line_within x.now ≡ true = item_within p c.args.self.now.fits k x.now below is in search rules),
+      serves_from_places (YieldsList-from_slice p.lines cc) (λ x q k. search rules) (λ x k below is.
+          let within : line_within x.now ≡ true = item_within p c.args.self.now.fits k x.now below is in search rules),
     )
 
 pub returns-clause-value : goal.returns-clause-value
@@ -20,6 +20,8 @@ returns-clause-value c =
     sum ∙ sum_by_list (caused_on p.price c.args.index) p.lines no_line
 
 pub returns-clause-bound : goal.returns-clause-bound
-returns-clause-bound c =
-    let p : Posting = posting_of c.args.self.now.posting in
-    omega (arith, returns-clause-value c, caused_le p c.args.self.now.fits c.args.index)
+returns-clause-bound c = omega (
+  arith,
+  returns-clause-value c,
+  caused_le (posting_of c.args.self.now.posting) c.args.self.now.fits c.args.index,
+)

@@ -25,6 +25,5 @@ overflow_cast-result c =
     let sum : c.sum-all.result ≡ sum_by distributed (zip checked.posting.lines.now checked.agents.now) =
     sum_by_from_yields_List distributed _ c.map.result c.sum-all.result c.sum-all.ensures.ran
     (YieldsList-from_map _ distributed (YieldsList-from_zip (YieldsList-from_slice checked.posting.lines.now cc) (YieldsList-from_slice checked.agents.now cc)) c.map.ensures.closure (λ x r q k. search rules)) in
-    let all : c.sum-all.result ≡ distributors_withdrawn checked.agents.now checked.posting.lines.now =
-    sum ∙ sum_by_zip distributed checked.posting.lines.now checked.agents.now no_line no_agent checked.agents_long in
+    let all = sum ∙ sum_by_zip distributed checked.posting.lines.now checked.agents.now no_line no_agent checked.agents_long in
     record { fits = omega (arith, distributors_le checked.agents.now checked.posting.lines.now, checked.fits.withdrawn_within) }

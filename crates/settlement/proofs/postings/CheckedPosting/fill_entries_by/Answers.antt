@@ -20,22 +20,18 @@ pub entry-requires : goal.entry-requires
 entry-requires c =
     let checked = c.args.self.now in
     let p : Posting = posting_of checked.posting in
-    record {
-      caused_within = c.caused_excess.ensures.bound;
-      carried_within = omega (arith, part_read checked.agents.now p c.fill_parts.new.parts c.loop-i.i c.fill_parts.ensures.value, carried_le p checked.fits checked.agents.now c.loop-i.i c.loop-i-test.true);
-    }
+    let read = part_read checked.agents.now p c.fill_parts.new.parts c.loop-i.i c.fill_parts.ensures.value in
+    let most = carried_le p checked.fits checked.agents.now c.loop-i.i c.loop-i-test.true in
+    record { caused_within = c.caused_excess.ensures.bound; carried_within = omega arith }
 
 pub loop-i-preserved : goal.loop-i-preserved
 loop-i-preserved c =
     let i = c.loop-i.i in
     let agents : List Agent = c.args.self.now.agents.now in
     let p : Posting = posting_of c.args.self.now.posting in
-    let line = line_at p.lines i in
-    let made : c.entry.result ≡ entry_of (own_of agents p i) =
-    c.entry.ensures
-    ∙ (λ t. entry_of (figures_with (c.priced.ensures.price t) (c.priced.ensures.line t) (pos 0) c.caused_excess.result (get_or c.fill_parts.new.parts i 0)))
-    ∙ ap (λ n. entry_of (figures_with p.price line (pos 0) n (get_or c.fill_parts.new.parts i 0))) c.caused_excess.ensures.value
-    ∙ ap (λ n. entry_of (figures_with p.price line (pos 0) (caused_sum p i) n)) (part_read agents p c.fill_parts.new.parts c.loop-i.i c.fill_parts.ensures.value) in
+    let read = part_read agents p c.fill_parts.new.parts i c.fill_parts.ensures.value in
+    let made : c.entry.result ≡ entry_of (own_of agents p i) = c.entry.ensures ∙ (λ t.
+    entry_of (figures_with (c.priced.ensures.price t) (c.priced.ensures.line t) (pos 0) (c.caused_excess.ensures.value t) (read t))) in
     below_more _ _
     (λ k h. let ne : k ≢ i = omega arith in rw get_or-set_other (c.loop-i.invariant k h))
     (let lt : i < length c.loop-i.fresh = omega arith in get_or-set_same c.loop-i.fresh i c.entry.result no_holding lt ∙ made)

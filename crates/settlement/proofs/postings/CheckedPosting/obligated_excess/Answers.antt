@@ -9,8 +9,8 @@ pub sum-requires-clause-can : goal.sum-requires-clause-can
 sum-requires-clause-can c =
     let p : Posting = posting_of c.args.self.now.posting in (
       tt,
-      serves_from_places (YieldsList-from_slice p.lines cc) (λ x q k. search rules)
-          (λ x k below is. let within : line_within x.now ≡ true = item_within p c.args.self.now.fits k x.now below is in search rules),
+      serves_from_places (YieldsList-from_slice p.lines cc) (λ x q k. search rules) (λ x k below is.
+          let within : line_within x.now ≡ true = item_within p c.args.self.now.fits k x.now below is in search rules),
     )
 
 pub returns-clause-value : goal.returns-clause-value
@@ -21,5 +21,4 @@ returns-clause-value c =
 
 pub returns-clause-bound : goal.returns-clause-bound
 returns-clause-bound c =
-    let p : Posting = posting_of c.args.self.now.posting in
-    omega (arith, returns-clause-value c, obligated_le p c.args.self.now.fits)
+    omega (arith, returns-clause-value c, obligated_le (posting_of c.args.self.now.posting) c.args.self.now.fits)

@@ -13,14 +13,12 @@ first_outside lines = first_is (λ (l : Line). not (line_within l)) (λ i. line_
 
 pub returns-in-Some : goal.returns-in-Some
 returns-in-Some c =
-    let lines = c.args.self.now.lines.now in
-    let found : c.position-first.result ≡ position (λ (l : Line). not (line_within l)) lines =
-    position_from_yields_List (λ (l : Line). not (line_within l)) _ _ c.position-first.result c.position-first.ensures.ran (YieldsList-from_slice lines cc) (λ x b q k. search (rules, tests)) in
-    ap (option_map (λ i. OutsideLimit (i + 1))) (sym c.in-Some.is ∙ found ∙ first_outside lines)
+    ap (option_map (λ i. OutsideLimit (i + 1))) (sym c.in-Some.is
+    ∙ position_from_yields_List (λ (l : Line). not (line_within l)) _ _ c.position-first.result c.position-first.ensures.ran (YieldsList-from_slice c.args.self.now.lines.now cc) (λ x b q k. search (rules, tests))
+    ∙ first_outside c.args.self.now.lines.now)
 
 pub returns-in-None : goal.returns-in-None
 returns-in-None c =
-    let lines = c.args.self.now.lines.now in
-    let found : c.position-first.result ≡ position (λ (l : Line). not (line_within l)) lines =
-    position_from_yields_List (λ (l : Line). not (line_within l)) _ _ c.position-first.result c.position-first.ensures.ran (YieldsList-from_slice lines cc) (λ x b q k. search (rules, tests)) in
-    ap (option_map (λ i. OutsideLimit (i + 1))) (sym c.in-None.is ∙ found ∙ first_outside lines)
+    ap (option_map (λ i. OutsideLimit (i + 1))) (sym c.in-None.is
+    ∙ position_from_yields_List (λ (l : Line). not (line_within l)) _ _ c.position-first.result c.position-first.ensures.ran (YieldsList-from_slice c.args.self.now.lines.now cc) (λ x b q k. search (rules, tests))
+    ∙ first_outside c.args.self.now.lines.now)

@@ -25,14 +25,14 @@ pub returns-in-Some : goal.returns-in-Some
 returns-in-Some c =
     let lines = c.args.self.now.lines.now in
     let agents = c.args.self.now.agents.now in
-    let found : c.position.result ≡ position (broken (length agents)) (zip lines agents) =
-    position_from_yields_List (broken (length agents)) c.position.new.self _ c.position.result c.position.ensures.ran (YieldsList-from_zip (YieldsList-from_slice lines cc) (YieldsList-from_slice agents cc)) (λ x b q k. search (rules, tests)) in
-    ap (option_map (λ i. BreaksRule (i + 1))) (sym c.in-Some.is ∙ found ∙ first_broken agents lines c.args.self.now.each_has_one)
+    ap (option_map (λ i. BreaksRule (i + 1))) (sym c.in-Some.is
+    ∙ position_from_yields_List (broken (length agents)) c.position.new.self _ c.position.result c.position.ensures.ran (YieldsList-from_zip (YieldsList-from_slice lines cc) (YieldsList-from_slice agents cc)) (λ x b q k. search (rules, tests))
+    ∙ first_broken agents lines c.args.self.now.each_has_one)
 
 pub returns-in-None : goal.returns-in-None
 returns-in-None c =
     let lines = c.args.self.now.lines.now in
     let agents = c.args.self.now.agents.now in
-    let found : c.position.result ≡ position (broken (length agents)) (zip lines agents) =
-    position_from_yields_List (broken (length agents)) c.position.new.self _ c.position.result c.position.ensures.ran (YieldsList-from_zip (YieldsList-from_slice lines cc) (YieldsList-from_slice agents cc)) (λ x b q k. search (rules, tests)) in
-    ap (option_map (λ i. BreaksRule (i + 1))) (sym c.in-None.is ∙ found ∙ first_broken agents lines c.args.self.now.each_has_one)
+    ap (option_map (λ i. BreaksRule (i + 1))) (sym c.in-None.is
+    ∙ position_from_yields_List (broken (length agents)) c.position.new.self _ c.position.result c.position.ensures.ran (YieldsList-from_zip (YieldsList-from_slice lines cc) (YieldsList-from_slice agents cc)) (λ x b q k. search (rules, tests))
+    ∙ first_broken agents lines c.args.self.now.each_has_one)

@@ -19,9 +19,5 @@ returns-clause-bound c =
     let sum : c.sum.result ≡ sum_by credit agents =
     sum_by_from_yields_List credit agents c.map.result c.sum.result c.sum.ensures.ran
     (YieldsList-from_map _ credit (YieldsList-from_slice agents cc) c.map.ensures.closure (λ x r q k. search rules)) in
-    omega (
-      arith,
-      sum ∙ sum_by_list credit agents no_agent,
-      sum_to_le (length agents) (λ i. credit (get_or agents i no_agent)) most_credit (λ i below. omega arith),
-      c.args.self.now.few,
-    )
+    let most = sum_to_le (length agents) (λ i. credit (get_or agents i no_agent)) most_credit (λ i below. omega arith) in
+    omega (arith, sum ∙ sum_by_list credit agents no_agent, c.args.self.now.few)

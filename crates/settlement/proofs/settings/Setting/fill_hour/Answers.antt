@@ -11,8 +11,7 @@ returns g c =
     let n = length p.lines in
     let setting : Setting = setting_of (g.F.ContractForm.meaning c.args.self.now.form.now) c.args.self.now in
     let own : ℕ → Holding = λ i. entry_of (own_of setting.agents p i) in
-    let filled : c.fill_entries.new.fresh ≡ map own (range_with_len 0 n) =
-    subst (λ (agents : List Agent). c.fill_entries.new.fresh ≡ map (λ i. entry_of (own_of agents p i)) (range_with_len 0 n)) c.requires.agents c.fill_entries.ensures in
+    let filled : c.fill_entries.new.fresh ≡ map own (range_with_len 0 n) = rw c.requires.agents at c.fill_entries.ensures in
     fill_by_all (λ i. entry_of (hour_of setting p i)) c.put_contracts.new.fresh n no_holding
     (omega (arith, c.put_contracts.auto.fresh, c.fill_entries.auto.fresh, c.requires.fresh_long))
     (λ i within.
