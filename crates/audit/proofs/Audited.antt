@@ -5,7 +5,7 @@ use Rattle.std.proofs.lemmas.Bool.{and_parts, eqb-true}
 use Rattle.forms.specs.Meaning.{Keeps}
 use Rattle.settlement.specs.declared.{agents.Agent.Agent, states.State.TheVariants.Open}
 use Rattle.book.specs.{declared.months.MonthFigures.MonthFigures, declared.statements.Statement.Statement, Memory.Memory, Opening.open_fault}
-use Rattle.law.specs.{Law.Book, Law.Ran, Replies.Reply, Replies.is_done, Requests.Request, Requests.told_without, Worked.residue_after}
+use Rattle.law.specs.{Law.Book, Law.Ran, Replies.Reply, Replies.is_done, Requests.Request, Requests.told_without, Standing.Standing, Worked.residue_after}
 use Rattle.law.proofs.{Lawful.settled, Sound.Opened}
 use Rattle.runs.specs.{Reading.opening_of, Reading.Answer, Reading.reply_of, Runs.Kept, Runs.kept_of, Runs.answers_to, Runs.kept_after, Runs.all_done, Runs.statements_in, Runs.statements_fault, Runs.together}
 use Rattle.runs.proofs.{Run.heard_by, Run.told_by, Books.is_opened, Books.kept_holds, Books.kept_opens, Books.kept_emptied, Books.kept_states, Books.kept_ran}
@@ -39,11 +39,12 @@ places_long calls agents found fit =
     }
 
 -- a case that is opened in memory of its agents
-module _ (case : Case) (keeps : Keeps case.form) (m : Memory) (agents : m.agents ≡ case.agents) (opens : open_fault case.figures m ≡ None) where
-  -- its opening
-  opened : Opened (opening_in case)
-  opened = subst (λ agents. Opened (opening_of case.figures agents)) agents (is_opened case.figures m opens)
+pub record Opens (case : Case) (m : Memory) : Type 0 where
+  pub keeps : Keeps case.form
+  pub agents : m.agents ≡ case.agents
+  pub opens : open_fault case.figures m ≡ None
 
+module _ {case : Case} {m : Memory} (lent : Opens case m) where
   -- ---- memory from one book to the next
 
   module _ (contracts : Bool) (requests : List Request) where
@@ -53,30 +54,16 @@ module _ (case : Case) (keeps : Keeps case.form) (m : Memory) (agents : m.agents
 
     -- it can be opened anew
     pub opens_after : (m' : Memory) → m' ≡ left.memory → open_fault case.figures m' ≡ None
-    opens_after m' is = ap (open_fault case.figures) is ∙ kept_opens case.form keeps case.figures m opens contracts requests
+    opens_after m' is = ap (open_fault case.figures) is ∙ kept_opens case.form lent.keeps case.figures m lent.opens contracts requests
 
-    -- and is opened to the same
+    -- and is opened to the same, so that another run ends as if it had begun in what was lent
     pub begun_after : (m' : Memory) → m' ≡ left.memory → begun m' ≡ begun m
-    begun_after m' is = ap begun is ∙ ap (kept_of Open) (kept_emptied case.form keeps case.figures m opens contracts requests)
-
-    -- so another run ends as if it had begun in what was lent
-    pub ended_after : (m' : Memory) → m' ≡ left.memory → (by : Bool) (others : List Request) →
-        ended by (record case { requests = others }) m' ≡ ended by (record case { requests = others }) m
-    ended_after m' is by others = ap (kept_after by case.form case.figures others) (begun_after m' is)
-
-    -- and is answered so
-    pub answered_after : (m' : Memory) → m' ≡ left.memory → (by : Bool) (others : List Request) →
-        answered by (record case { requests = others }) m' ≡ answered by (record case { requests = others }) m
-    answered_after m' is by others = ap (answers_to by case.form case.figures others) (begun_after m' is)
-
-    -- its agents are the same
-    pub agents_after : (m' : Memory) → m' ≡ left.memory → m'.agents ≡ case.agents
-    agents_after m' is = ap (λ (x : Memory). x.agents) is ∙ (kept_holds case.form keeps case.figures m opens contracts requests).memory.agents ∙ agents
+    begun_after m' is = ap begun is ∙ ap (kept_of Open) (kept_emptied case.form lent.keeps case.figures m lent.opens contracts requests)
 
     -- and it gives every statement, where there is a place for each
     pub states_after : (g : MonthFigures) (k : Kept) → g ≡ case.figures → k ≡ left → (places : ℕ) → places ≡ length m.agents → statements_fault case.form g places k.memory ≡ None
     states_after g k same is places long =
-        (λ t. statements_fault case.form (same t) places (is t).memory) ∙ kept_states case.form keeps case.figures m opens contracts requests places long
+        (λ t. statements_fault case.form (same t) places (is t).memory) ∙ kept_states case.form lent.keeps case.figures m lent.opens contracts requests places long
 
     -- the book was run as the rules say
     ran : (told : List Reply) (statements : List Statement) (balances : ℤ) → told ≡ told_by contracts requests (map reply_of (answers_to contracts case.form case.figures requests (begun m))) →
@@ -84,20 +71,19 @@ module _ (case : Case) (keeps : Keeps case.form) (m : Memory) (agents : m.agents
         Ran case.form (opening_in case) (heard_by contracts requests) (book_of told statements balances)
     ran told statements balances said stated summed =
         subst (λ (x : List Agent × Book). Ran case.form (opening_of case.figures x.0) (heard_by contracts requests) x.1)
-        (λ t. (agents t, book_of (sym said t) (sym stated t) (sym summed t)))
-        (kept_ran case.form keeps case.figures m opens contracts requests)
+        (λ t. (lent.agents t, book_of (sym said t) (sym stated t) (sym summed t)))
+        (kept_ran case.form lent.keeps case.figures m lent.opens contracts requests)
 
   -- ---- what the first leaves
 
+  abbrev standing : List Agent → Standing
+  standing agents = standing_in (record case { agents = agents })
+
   pub left_places : (ended true case m).memory.contracts ≡ (standing_in case).places
-  left_places =
-      (kept_holds case.form keeps case.figures m opens true case.requests).memory.contracts
-      ∙ ap (λ agents. (standing_in (record case { agents = agents })).places) agents
+  left_places = (kept_holds case.form lent.keeps case.figures m lent.opens true case.requests).memory.contracts ∙ (λ t. (standing (lent.agents t)).places)
 
   pub left_state : (ended true case m).state ≡ (standing_in case).state
-  left_state =
-      (kept_holds case.form keeps case.figures m opens true case.requests).state
-      ∙ ap (λ agents. (standing_in (record case { agents = agents })).state) agents
+  left_state = (kept_holds case.form lent.keeps case.figures m lent.opens true case.requests).state ∙ (λ t. (standing (lent.agents t)).state)
 
   -- ---- the law
 
@@ -107,7 +93,7 @@ module _ (case : Case) (keeps : Keeps case.form) (m : Memory) (agents : m.agents
       report.balances_again ≡ together (statements_in case.figures (ended true (again case) m).memory) →
       report.residue ≡ residue_after (opening_in case) (standing_in case) → SettledIn case m found report
   law_holds found report all one two three residue =
-      settled case.form keeps (opening_in case) opened case.requests _ _ _ _
+      settled case.form lent.keeps (opening_in case) (subst (λ agents. Opened (opening_of case.figures agents)) lent.agents (is_opened case.figures m lent.opens)) case.requests _ _ _ _
       (ran true case.requests _ _ _ (ap (map reply_of) all.first.told) all.first.stated one)
       (ran false case.requests _ _ _ (ap (λ answers. told_without case.requests (map reply_of answers)) all.second.told) all.second.stated two)
       (ran true (again case).requests _ _ _ refl all.third.stated three)

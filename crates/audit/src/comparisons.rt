@@ -64,10 +64,10 @@ fn is_party(index: u32, place: &Option<Contract>) -> bool
     ensures { result ≡ is_party index place.now }
 {
     match place {
-        Some(contract) => {
-            contract.seller.checked_sub(1) == Some(index)
-                || contract.buyer.checked_sub(1) == Some(index)
-        }
+        Some(contract) => contract
+            .party_numbers()
+            .iter()
+            .any(|number| number.checked_sub(1) == Some(index)),
         None => false,
     }
 }

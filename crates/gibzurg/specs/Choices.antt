@@ -1,5 +1,5 @@
 -- The words that stand for numbers.
-use Rattle.std.specs.Prelude.{ℕ, ◌+◌, cond, List, [], ◌∷◌, Some, None, codes, Option, nat_eq}
+use Rattle.std.specs.Prelude.{ℕ, ◌+◌, if◌then◌else◌, ◌==◌, List, [], ◌∷◌, Some, None, codes, Option}
 use Rattle.std.specs.Str.{bytes_eq}
 use Rattle.forms.specs.declared.Delivery.{Delivery}
 use Rattle.forms.specs.declared.Delivery.TheVariants.{MarketBar, SellerNode, BuyerNode}
@@ -10,11 +10,13 @@ use Rattle.gibzurg.specs.Numbers.{number_of}
 -- the place of a word among names that are counted from n; any other word is a number written out
 abbrev pub place_among : ℕ → List (List ℕ) → List ℕ → Option ℕ
 place_among n [] word = number_of word
-place_among n (name ∷ names) word = cond (bytes_eq word name) (Some n) (place_among (n + 1) names word)
+place_among n (name ∷ names) word = if bytes_eq word name then Some n else place_among (n + 1) names word
 
 -- weekdays are counted from 0
 abbrev pub weekdays : List (List ℕ)
-weekdays = codes "monday" ∷ codes "tuesday" ∷ codes "wednesday" ∷ codes "thursday" ∷ codes "friday" ∷ codes "saturday" ∷ codes "sunday" ∷ []
+weekdays =
+    codes "monday" ∷ codes "tuesday" ∷ codes "wednesday" ∷ codes "thursday" ∷ codes "friday"
+    ∷ codes "saturday" ∷ codes "sunday" ∷ []
 
 -- roles are counted from 1
 abbrev pub roles : List (List ℕ)
@@ -37,7 +39,9 @@ places = codes "market" ∷ codes "seller" ∷ codes "buyer" ∷ []
 -- the place of delivery of a number, where there is one
 abbrev pub delivery_numbered : Option ℕ → Option Delivery
 delivery_numbered None = None
-delivery_numbered (Some n) = cond (nat_eq n 1) (Some MarketBar) (cond (nat_eq n 2) (Some SellerNode) (cond (nat_eq n 3) (Some BuyerNode) None))
+delivery_numbered (Some n) =
+    if n == 1 then Some MarketBar
+    else (if n == 2 then Some SellerNode else (if n == 3 then Some BuyerNode else None))
 
 -- the place of delivery that a word stands for
 abbrev pub place_meant : List ℕ → Option Delivery

@@ -33,7 +33,6 @@ pub(crate) enum Choice {
     Class,
 }
 
-// Kept: a struct of constants in place of the matches is no plainer, since what `read` promises names each choice.
 impl Choice {
     /// The word that stands before the figure.
     pub(crate) fn label(self) -> &'static str {

@@ -1,10 +1,11 @@
 //! What differs between the books of an audit. Nothing ever should.
 use crate::record::{Audited, Places};
-use crate::words::Heading;
+use crate::words::{Heading, line_word};
 use audit::{Call, is_alike, is_stranger};
 use book::Statement;
 use std::alloc::{AllocError, Global};
 use std::fmt;
+use tally::MoneyLine;
 
 /// The two books that are compared.
 #[derive(Clone, Copy, Debug, PartialEq)]
@@ -55,21 +56,6 @@ impl fmt::Display for Difference {
     }
 }
 
-/// The lines of a statement by the words that begin them, each with whether it differs in two statements.
-pub(crate) fn compared(one: &Statement, other: &Statement) -> [(&'static str, bool); 8] {
-    let (left, right) = (one.lines, other.lines);
-    [
-        ("Market", left.market != right.market),
-        ("Contracts", left.contract != right.contract),
-        ("Overcost", left.overcost != right.overcost),
-        ("Power", left.power != right.power),
-        ("Balance", one.balance != other.balance),
-        ("Injected", one.energy.injected != other.energy.injected),
-        ("Withdrawn", one.energy.withdrawn != other.energy.withdrawn),
-        ("Peak", one.peak != other.peak),
-    ]
-}
-
 /// What differs between the answers of the first and the second book, of the calls that both heard.
 fn differing_answers(
     heap: Global,
@@ -90,16 +76,28 @@ fn differing_answers(
     Ok(differences)
 }
 
-/// Adds what differs between two statements of an agent.
-fn compare(
+/// Adds what differs between two statements of an agent, by the words that begin a statement's lines.
+pub(crate) fn compare(
     differences: &mut Vec<Difference>,
     books: Books,
     agent: u32,
     one: &Statement,
     other: &Statement,
 ) -> Result<(), AllocError> {
-    for (line, differs) in compared(one, other) {
-        if differs {
+    for money_line in MoneyLine::ALL {
+        if one.lines.on(money_line) != other.lines.on(money_line) {
+            let line = line_word(money_line);
+            differences.push(Difference::Statement { books, agent, line })?;
+        }
+    }
+    let others = [
+        ("Balance", one.balance == other.balance),
+        ("Injected", one.energy.injected == other.energy.injected),
+        ("Withdrawn", one.energy.withdrawn == other.energy.withdrawn),
+        ("Peak", one.peak == other.peak),
+    ];
+    for (line, is_same) in others {
+        if !is_same {
             differences.push(Difference::Statement { books, agent, line })?;
         }
     }

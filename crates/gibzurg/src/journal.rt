@@ -3,6 +3,7 @@ use crate::choices::Choice;
 use crate::expected::Expected;
 use crate::fields::Fields;
 use book::{Agent, Line, MonthFigures};
+use calendar::Calendar;
 use forms::Contract;
 
 /// What one journal line says.
@@ -105,7 +106,9 @@ fn call_named<'a>(first: &str, fields: &mut Fields<'a>) -> Result<Request<'a>, E
         "open" => Request::Open(MonthFigures {
             agents: fields.figure("agents")?,
             days: fields.figure("days")?,
-            weekday: fields.choice(Choice::Weekday)?,
+            calendar: Calendar {
+                weekday: fields.choice(Choice::Weekday)?,
+            },
         }),
         "contract" => Request::Enter {
             number: fields.contract()?,

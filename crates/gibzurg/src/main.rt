@@ -2,6 +2,7 @@
 #![tactic(auto)]
 
 mod auditing;
+mod buffers;
 mod choices;
 mod differences;
 mod dollars;
@@ -10,10 +11,9 @@ mod facts;
 mod fields;
 mod help;
 mod journal;
-mod ledger;
-mod memory;
 mod metering;
 mod numbers;
+mod open_book;
 mod record;
 mod session;
 mod settling;

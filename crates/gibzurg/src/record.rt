@@ -1,13 +1,12 @@
 //! A book's opening with the calls after it, and what an audit finds of them.
+use crate::buffers::Buffers;
 use crate::expected::Expected;
-use crate::memory::Memory;
 use audit::{Answer, Call, Findings, Report, Told};
 use book::{Agent, BookFault, MonthFigures, Statement};
 use forms::{Contract, Product, Role};
 use std::alloc::{AllocError, Global};
 
-/// What the book answered, where there was memory for it.
-// Kept: one error enum is no plainer, since `?` takes the outer error, which ends the run, and the inner one is an answer to print.
+/// What the book answered, where there was memory for it. Without memory the run ends; a fault is an answer to print.
 pub(crate) type Heard<T> = Result<Result<T, BookFault>, AllocError>;
 
 /// A book to open, with the agents that have been read so far.
@@ -105,21 +104,19 @@ impl Record {
     pub(crate) fn audit(&self, heap: Global) -> Heard<Audited> {
         let figures = self.opening.figures;
         let agents = &self.opening.agents;
-        let mut memory = Memory::new(heap, figures)?;
+        let mut buffers = Buffers::new(heap, figures)?;
         let mut found = Places::new(heap, self.calls.len(), agents.len())?;
         let report = audit::audit(
             figures,
             &Product,
             &self.calls,
-            agents,
-            &mut memory.contracts,
-            &mut memory.records.lend(),
+            &mut buffers.lend(agents),
             &mut found.lend(),
         );
         Ok(report.map(|report| Audited {
             report,
             found,
-            contracts: memory.contracts,
+            contracts: buffers.contracts,
         }))
     }
 }

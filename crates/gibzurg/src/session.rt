@@ -4,7 +4,7 @@ use crate::journal;
 use crate::journal::{Entry, Request};
 use crate::record::Opening;
 use crate::trouble::Trouble;
-use audit::{Call, Posting};
+use audit::Call;
 use book::{Agent, Line};
 use std::alloc::Global;
 
@@ -26,7 +26,12 @@ enum Begun {
     /// An opening whose agents are being read.
     Opening(usize, Opening),
     /// A posting whose lines are being read.
-    Posting(usize, Posting),
+    Posting {
+        line: usize,
+        hour: u32,
+        price: u32,
+        lines: Vec<Line>,
+    },
 }
 
 /// The reading of one journal.
@@ -85,12 +90,12 @@ impl<D: Desk> Session<'_, D> {
                 return self.open_if_complete(line, opening);
             }
             Request::Post { hour, price } => {
-                let posting = Posting {
+                self.begun = Some(Begun::Posting {
+                    line,
                     hour,
                     price,
                     lines: Vec::new(self.heap),
-                };
-                self.begun = Some(Begun::Posting(line, posting));
+                });
                 return Ok(());
             }
             Request::Statements => return self.desk.statements(line),
@@ -138,7 +143,7 @@ impl<D: Desk> Session<'_, D> {
         match &mut self.begun {
             None => Err(Trouble::Malformed(line, Expected::NoPostingLine)),
             Some(Begun::Opening(_, opening)) => Err(Trouble::Malformed(line, opening.awaited())),
-            Some(Begun::Posting(_, posting)) => Ok(posting.lines.push(figures)?),
+            Some(Begun::Posting { lines, .. }) => Ok(lines.push(figures)?),
         }
     }
 
@@ -154,7 +159,14 @@ impl<D: Desk> Session<'_, D> {
     /// Calls the posting, where one has been begun.
     fn post(&mut self) -> Result<(), Trouble> {
         match self.begun.take() {
-            Some(Begun::Posting(line, posting)) => self.desk.call(line, Call::Post(posting)),
+            Some(
+                Begun::Posting {
+                    line,
+                    hour,
+                    price,
+                    lines,
+                },
+            ) => self.desk.call(line, Call::Post { hour, price, lines }),
             begun => {
                 self.begun = begun;
                 Ok(())

@@ -1,5 +1,5 @@
 //! A journal settled: each call is made on the book, and answered.
-use crate::ledger::Ledger;
+use crate::open_book::OpenBook;
 use crate::record::Opening;
 use crate::session::{Desk, run};
 use crate::trouble::Trouble;
@@ -9,7 +9,7 @@ use audit::{Call, Told};
 /// A desk that answers, with the book that calls are made on.
 struct Clerk<'a> {
     rt: &'a HostRuntime,
-    book: Option<Ledger>,
+    book: Option<OpenBook>,
 }
 
 /// Runs a journal, and prints the answers.
@@ -22,17 +22,17 @@ pub(crate) fn settle(rt: &HostRuntime, text: &str) -> Result<(), Trouble> {
 }
 
 /// Lets a book go.
-fn retire(book: Option<Ledger>) {
-    if let Some(ledger) = book {
-        ledger.retire();
+fn retire(book: Option<OpenBook>) {
+    if let Some(book) = book {
+        book.retire();
     }
 }
 
 impl Desk for Clerk<'_> {
     fn open(&mut self, line: usize, opening: Opening) -> Result<(), Trouble> {
         retire(self.book.take());
-        let outcome = Ledger::open(self.rt.alloc(), opening)?
-            .map(|ledger| retire(self.book.replace(ledger)))
+        let outcome = OpenBook::open(self.rt.alloc(), opening)?
+            .map(|book| retire(self.book.replace(book)))
             .map_err(Undone::Refused);
         self.say(line, Heading::Open, outcome)
     }
@@ -48,10 +48,10 @@ impl Desk for Clerk<'_> {
     }
 
     fn statements(&mut self, line: usize) -> Result<(), Trouble> {
-        let Some(ledger) = &self.book else {
+        let Some(book) = &self.book else {
             return self.say(line, Heading::Statements, Err(Undone::NoBook));
         };
-        let count = ledger.count();
+        let count = book.count();
         self.say(line, Heading::Statements, Ok(()))?;
         for agent in 1..=count {
             match self.hear(Call::Statement(agent))? {
@@ -81,11 +81,11 @@ impl Clerk<'_> {
 
     /// Makes a call on the open book.
     fn hear(&mut self, call: Call) -> Result<Result<Told, Undone>, Trouble> {
-        let Some(ledger) = self.book.take() else {
+        let Some(book) = self.book.take() else {
             return Ok(Err(Undone::NoBook));
         };
-        let (ledger, answer) = ledger.call(call);
-        retire(self.book.replace(ledger));
+        let (book, answer) = book.call(call);
+        retire(self.book.replace(book));
         Ok(match answer? {
             Ok(Told::Skipped) => Err(Undone::Closed),
             Ok(told) => Ok(told),
@@ -96,8 +96,8 @@ impl Clerk<'_> {
     /// Prints the statement that was told of an agent.
     fn show(&self, agent: u32, told: Told) -> Result<(), Trouble> {
         match (&self.book, told) {
-            (Some(ledger), Told::Stated(statement)) => Ok(
-                self.rt.println(ledger.sheet(agent, statement))?,
+            (Some(book), Told::Stated(statement)) => Ok(
+                self.rt.println(book.sheet(agent, statement))?,
             ),
             _ => Ok(()),
         }
@@ -105,10 +105,10 @@ impl Clerk<'_> {
 
     /// Prints what the statements of all agents come to together.
     fn add_up(&self, line: usize) -> Result<(), Trouble> {
-        let Some(ledger) = &self.book else {
+        let Some(book) = &self.book else {
             return Ok(());
         };
-        match ledger.record().audit(self.rt.alloc())? {
+        match book.record().audit(self.rt.alloc())? {
             Ok(audited) => Ok(self.rt.println(Totals::from(audited.report))?),
             Err(fault) => self.say(line, Heading::Statements, Err(Undone::Refused(fault))),
         }

@@ -1,6 +1,6 @@
 //! What the parser reads, and what the printer says, on examples.
 use crate::choices::Choice;
-use crate::differences::{Books, Difference, compared};
+use crate::differences::{Books, Difference, compare};
 use crate::dollars::Dollars;
 use crate::expected::Expected;
 use crate::facts::{Facts, NoAudit};
@@ -8,13 +8,16 @@ use crate::journal::{Entry, Request};
 use crate::metering::{Metered, Unmetered, hour_in};
 use crate::numbers::number;
 use crate::trouble::Trouble;
-use crate::words::{Heading, Reply, Sheet, Stage, Totals, Undone};
+use crate::words::{Heading, Reply, Sheet, Totals, Undone};
 use crate::{auditing, journal, settling};
 use audit::{Comparison, Report, Told, is_alike};
 use book::{Agent, BookFault, Line, LineFault, MonthFigures, Statement};
+use calendar::Calendar;
 use forms::{Contract, Delivery, Role};
 use meter::{Hour, MeterFault};
 use packets::ByteFault;
+use settlement::State;
+use std::alloc::{AllocError, Global};
 use std::test::Fail;
 use tally::{Energy, Money, Peak};
 
@@ -53,89 +56,91 @@ fn reads_numbers(rt: HostRuntime) {
     }
 }
 
+/// Lines of a journal, and what they say.
+const LINES: [(&str, Option<Entry<'static>>); 15] = [
+    ("", None),
+    ("   ", None),
+    ("# open", None),
+    (
+        "open agents 2 days 1 weekday monday",
+        Some(Entry::Call(Request::Open(MonthFigures {
+            agents: 2,
+            days: 1,
+            calendar: Calendar { weekday: 0 },
+        }))),
+    ),
+    (
+        "open agents 4294967295 days 99 weekday sunday",
+        Some(Entry::Call(Request::Open(MonthFigures {
+            agents: 4294967295,
+            days: 99,
+            calendar: Calendar { weekday: 6 },
+        }))),
+    ),
+    (
+        "agent 1 role generator capacity 4000 power 7",
+        Some(Entry::Agent(
+            1,
+            Agent {
+                role: 1,
+                capacity: 4000,
+                power: 7,
+            },
+        )),
+    ),
+    (
+        "agent 2 role 9 capacity 0 power 0",
+        Some(Entry::Agent(
+            2,
+            Agent {
+                role: 9,
+                capacity: 0,
+                power: 0,
+            },
+        )),
+    ),
+    (
+        "  post   hour 8  price 60000 ",
+        Some(Entry::Call(Request::Post {
+            hour: 8,
+            price: 60000,
+        })),
+    ),
+    (
+        "line class forced cause 1 injected 2 withdrawn 3 gross 4 factor 5 cost 6",
+        Some(Entry::Line(Line {
+            class: 3,
+            cause: 1,
+            injected: 2,
+            withdrawn: 3,
+            gross: 4,
+            factor: 5,
+            cost: 6,
+        })),
+    ),
+    (
+        " packet  08e0D403 ",
+        Some(Entry::Call(Request::Packet("08e0D403"))),
+    ),
+    (
+        "withdraw hour 8",
+        Some(Entry::Call(Request::Withdraw { hour: 8 })),
+    ),
+    (
+        "cancel 64",
+        Some(Entry::Call(Request::Cancel { number: 64 })),
+    ),
+    ("close", Some(Entry::Call(Request::Close))),
+    (
+        "statement 64",
+        Some(Entry::Call(Request::Statement { agent: 64 })),
+    ),
+    ("statements", Some(Entry::Call(Request::Statements))),
+];
+
 #[test]
 fn reads_lines(rt: HostRuntime) {
-    let lines = [
-        ("", None),
-        ("   ", None),
-        ("# open", None),
-        (
-            "open agents 2 days 1 weekday monday",
-            Some(Entry::Call(Request::Open(MonthFigures {
-                agents: 2,
-                days: 1,
-                weekday: 0,
-            }))),
-        ),
-        (
-            "open agents 4294967295 days 99 weekday sunday",
-            Some(Entry::Call(Request::Open(MonthFigures {
-                agents: 4294967295,
-                days: 99,
-                weekday: 6,
-            }))),
-        ),
-        (
-            "agent 1 role generator capacity 4000 power 7",
-            Some(Entry::Agent(
-                1,
-                Agent {
-                    role: 1,
-                    capacity: 4000,
-                    power: 7,
-                },
-            )),
-        ),
-        (
-            "agent 2 role 9 capacity 0 power 0",
-            Some(Entry::Agent(
-                2,
-                Agent {
-                    role: 9,
-                    capacity: 0,
-                    power: 0,
-                },
-            )),
-        ),
-        (
-            "  post   hour 8  price 60000 ",
-            Some(Entry::Call(Request::Post {
-                hour: 8,
-                price: 60000,
-            })),
-        ),
-        (
-            "line class forced cause 1 injected 2 withdrawn 3 gross 4 factor 5 cost 6",
-            Some(Entry::Line(Line {
-                class: 3,
-                cause: 1,
-                injected: 2,
-                withdrawn: 3,
-                gross: 4,
-                factor: 5,
-                cost: 6,
-            })),
-        ),
-        (
-            " packet  08e0D403 ",
-            Some(Entry::Call(Request::Packet("08e0D403"))),
-        ),
-        (
-            "withdraw hour 8",
-            Some(Entry::Call(Request::Withdraw { hour: 8 })),
-        ),
-        (
-            "cancel 64",
-            Some(Entry::Call(Request::Cancel { number: 64 })),
-        ),
-        ("close", Some(Entry::Call(Request::Close))),
-        (
-            "statement 64",
-            Some(Entry::Call(Request::Statement { agent: 64 })),
-        ),
-        ("statements", Some(Entry::Call(Request::Statements))),
-    ];
-    for (line, wanted) in lines {
+    for (line, wanted) in LINES {
         assert_eq!(rt; journal::read(line), Ok(wanted), "{}", line);
     }
 }
@@ -176,52 +181,54 @@ fn reads_contracts(rt: HostRuntime) {
     }
 }
 
+/// Lines that are refused, and what was expected there.
+const REFUSED_LINES: [(&str, Expected); 29] = [
+    ("opens agents 2", Expected::Call),
+    ("OPEN agents 2", Expected::Call),
+    ("audit", Expected::Call),
+    ("post\thour 8 price 1", Expected::Call),
+    ("open", Expected::Figure("agents")),
+    (
+        "open agents two days 1 weekday 0",
+        Expected::Figure("agents"),
+    ),
+    ("open agents 2 days 1", Expected::Named(Choice::Weekday)),
+    (
+        "open agents 2 days 1 weekday someday",
+        Expected::Named(Choice::Weekday),
+    ),
+    ("agent", Expected::Agent),
+    ("agent one role 1 capacity 0 power 0", Expected::Agent),
+    (
+        "agent 1 role owner capacity 0 power 0",
+        Expected::Named(Choice::Role),
+    ),
+    ("post hour 8", Expected::Figure("price")),
+    ("post hour 8 price +5", Expected::Figure("price")),
+    ("post price 8 hour 5", Expected::Figure("hour")),
+    ("post hour 8 price 1 now", Expected::End),
+    ("line class odd", Expected::Named(Choice::Class)),
+    (
+        "line class 1 cause 0 injected 1 withdrawn 1 gross 1 factor 1",
+        Expected::Figure("cost"),
+    ),
+    ("packet", Expected::Digits),
+    ("packet 08E", Expected::Digits),
+    ("packet 08EG", Expected::Digits),
+    ("packet +8", Expected::Digits),
+    ("packet hour 8", Expected::Digits),
+    ("packet 08 E0", Expected::End),
+    ("withdraw 8", Expected::Figure("hour")),
+    ("cancel", Expected::Contract),
+    ("cancel contract 1", Expected::Contract),
+    ("close 1", Expected::End),
+    ("statement", Expected::Agent),
+    ("statements 2", Expected::End),
+];
+
 #[test]
 fn refuses_lines(rt: HostRuntime) {
-    let lines = [
-        ("opens agents 2", Expected::Call),
-        ("OPEN agents 2", Expected::Call),
-        ("audit", Expected::Call),
-        ("post\thour 8 price 1", Expected::Call),
-        ("open", Expected::Figure("agents")),
-        (
-            "open agents two days 1 weekday 0",
-            Expected::Figure("agents"),
-        ),
-        ("open agents 2 days 1", Expected::Named(Choice::Weekday)),
-        (
-            "open agents 2 days 1 weekday someday",
-            Expected::Named(Choice::Weekday),
-        ),
-        ("agent", Expected::Agent),
-        ("agent one role 1 capacity 0 power 0", Expected::Agent),
-        (
-            "agent 1 role owner capacity 0 power 0",
-            Expected::Named(Choice::Role),
-        ),
-        ("post hour 8", Expected::Figure("price")),
-        ("post hour 8 price +5", Expected::Figure("price")),
-        ("post price 8 hour 5", Expected::Figure("hour")),
-        ("post hour 8 price 1 now", Expected::End),
-        ("line class odd", Expected::Named(Choice::Class)),
-        (
-            "line class 1 cause 0 injected 1 withdrawn 1 gross 1 factor 1",
-            Expected::Figure("cost"),
-        ),
-        ("packet", Expected::Digits),
-        ("packet 08E", Expected::Digits),
-        ("packet 08EG", Expected::Digits),
-        ("packet +8", Expected::Digits),
-        ("packet hour 8", Expected::Digits),
-        ("packet 08 E0", Expected::End),
-        ("withdraw 8", Expected::Figure("hour")),
-        ("cancel", Expected::Contract),
-        ("cancel contract 1", Expected::Contract),
-        ("close 1", Expected::End),
-        ("statement", Expected::Agent),
-        ("statements 2", Expected::End),
-    ];
-    for (line, wanted) in lines {
+    for (line, wanted) in REFUSED_LINES {
         assert_eq!(rt; journal::read(line), Err(wanted), "{}", line);
     }
 }
@@ -286,55 +293,58 @@ fn says_dollars(rt: HostRuntime) -> Result<(), Fail> {
     Ok(())
 }
 
+/// A packet with a byte that is none.
+const BYTE: BookFault = BookFault::Posting(LineFault::Packet(ByteFault::Malformed(55)));
+
+/// The journal's line; the call; how it went; what is said.
+const REPLIES: [(usize, Heading, Result<(), Undone>, &str); 7] = [
+    (
+        5,
+        Heading::Post(8),
+        Ok(()),
+        "Line 5, post hour 8: accepted.",
+    ),
+    (
+        1,
+        Heading::Open,
+        Err(Undone::NoBook),
+        "Line 1, open: skipped, no book is open.",
+    ),
+    (
+        9,
+        Heading::Withdraw(8),
+        Err(Undone::Refused(BookFault::FreeHour(8))),
+        "Line 9, withdraw hour 8: refused, fault 9 at 8, the hour is free.",
+    ),
+    (
+        10,
+        Heading::Contract(65),
+        Err(Undone::Refused(BookFault::ContractNumber)),
+        "Line 10, contract 65: refused, fault 12 at 0, the contract number is outside 1 to 64, taken or not standing.",
+    ),
+    (
+        11,
+        Heading::Cancel(1),
+        Err(Undone::Closed),
+        "Line 11, cancel 1: skipped, the month is closed.",
+    ),
+    (
+        12,
+        Heading::Close,
+        Err(Undone::Refused(BookFault::MissingHour(7))),
+        "Line 12, close: refused, fault 10 at 7, an hour of the month is missing.",
+    ),
+    (
+        13,
+        Heading::Packet,
+        Err(Undone::Refused(BYTE)),
+        "Line 13, packet: refused, fault 17 at 55, no number that the format allows starts at byte 55, or bytes are left over from there on.",
+    ),
+];
+
 #[test]
 fn says_replies(rt: HostRuntime) -> Result<(), Fail> {
-    let byte = BookFault::Posting(LineFault::Packet(ByteFault::Malformed(55)));
-    // the journal's line; the call; how it went; what is said
-    let replies = [
-        (
-            5,
-            Heading::Post(8),
-            Ok(()),
-            "Line 5, post hour 8: accepted.",
-        ),
-        (
-            1,
-            Heading::Open,
-            Err(Undone::NoBook),
-            "Line 1, open: skipped, no book is open.",
-        ),
-        (
-            9,
-            Heading::Withdraw(8),
-            Err(Undone::Refused(BookFault::FreeHour(8))),
-            "Line 9, withdraw hour 8: refused, fault 9 at 8, the hour is free.",
-        ),
-        (
-            10,
-            Heading::Contract(65),
-            Err(Undone::Refused(BookFault::ContractNumber)),
-            "Line 10, contract 65: refused, fault 12 at 0, the contract number is outside 1 to 64, taken or not standing.",
-        ),
-        (
-            11,
-            Heading::Cancel(1),
-            Err(Undone::Closed),
-            "Line 11, cancel 1: skipped, the month is closed.",
-        ),
-        (
-            12,
-            Heading::Close,
-            Err(Undone::Refused(BookFault::MissingHour(7))),
-            "Line 12, close: refused, fault 10 at 7, an hour of the month is missing.",
-        ),
-        (
-            13,
-            Heading::Packet,
-            Err(Undone::Refused(byte)),
-            "Line 13, packet: refused, fault 17 at 55, no number that the format allows starts at byte 55, or bytes are left over from there on.",
-        ),
-    ];
-    for (line, heading, outcome, wanted) in replies {
+    for (line, heading, outcome, wanted) in REPLIES {
         let reply = Reply {
             line,
             heading,
@@ -387,7 +397,7 @@ fn says_statements(rt: HostRuntime) -> Result<(), Fail> {
     let sheet = Sheet {
         agent: 2,
         role: Some(Role::Distributor),
-        stage: Stage::Final,
+        state: State::Closed,
         statement: STATEMENT,
     };
     assert_eq!(rt;
@@ -452,21 +462,50 @@ fn says_differences(rt: HostRuntime) -> Result<(), Fail> {
     Ok(())
 }
 
+/// The lines of a statement, by the words that begin them.
+const STATEMENT_LINES: [&str; 8] = [
+    "Market",
+    "Contracts",
+    "Overcost",
+    "Power",
+    "Balance",
+    "Injected",
+    "Withdrawn",
+    "Peak",
+];
+
+/// The lines in which a statement of agent 2 differs from that of the tests, by the words that begin them.
+fn differing(heap: Global, other: &Statement) -> Result<Vec<&'static str>, AllocError> {
+    let mut found = Vec::new(heap);
+    compare(&mut found, Books::FirstAndThird, 2, &STATEMENT, other)?;
+    let mut words = Vec::new(heap);
+    for difference in &found {
+        if let Difference::Statement { line, .. } = difference {
+            words.push(*line)?;
+        }
+    }
+    Ok(words)
+}
+
 #[test]
-fn finds_differences(rt: HostRuntime) {
-    for (line, differs) in compared(&STATEMENT, &STATEMENT) {
-        assert!(rt; !differs, "{}", line);
-    }
-    for (line, differs) in compared(&STATEMENT, &Statement::blank()) {
-        assert!(rt; differs, "{}", line);
-    }
+fn finds_differing_lines(rt: HostRuntime) -> Result<(), Fail> {
     let later = Statement {
         peak: Peak { kwh: 970, hour: 9 },
         ..STATEMENT
     };
-    for (line, differs) in compared(&STATEMENT, &later) {
-        assert_eq!(rt; differs, line == "Peak", "{}", line);
+    let cases: [(Statement, &[&str]); 3] = [
+        (STATEMENT, &[]),
+        (Statement::blank(), &STATEMENT_LINES),
+        (later, &["Peak"]),
+    ];
+    for (other, words) in cases {
+        assert_eq!(rt; differing(rt.alloc(), &other)?.as_slice(), words);
     }
+    Ok(())
+}
+
+#[test]
+fn tells_answers_apart(rt: HostRuntime) {
     let answers = [
         Ok(Told::Accepted),
         Ok(Told::Skipped),
@@ -563,39 +602,41 @@ fn says_refused_days(rt: HostRuntime) -> Result<(), Fail> {
     Ok(())
 }
 
+/// Journals that end a run; the line where; what was expected there.
+const ENDED_RUNS: [(&str, usize, Expected); 8] = [
+    ("statements\nfoo", 2, Expected::Call),
+    ("statements\r\n", 1, Expected::Call),
+    (
+        "open agents 2 days 1 weekday 0\nagent 1 role 1 capacity 0 power 0\npost hour 1 price 1",
+        3,
+        Expected::AgentLine(2, 2),
+    ),
+    (
+        "open agents 2 days 1 weekday 0\nagent 2 role 1 capacity 0 power 0",
+        2,
+        Expected::AgentLine(1, 2),
+    ),
+    (
+        "open agents 4294967295 days 1 weekday 0\n",
+        2,
+        Expected::AgentLine(1, 4294967295),
+    ),
+    (
+        "open agents 0 days 1 weekday 0\nagent 1 role 1 capacity 0 power 0",
+        2,
+        Expected::NoAgentLine,
+    ),
+    (
+        "# none\nline class 1 cause 0 injected 1 withdrawn 1 gross 1 factor 1 cost 1",
+        2,
+        Expected::NoPostingLine,
+    ),
+    ("\npacket 08EG", 2, Expected::Digits),
+];
+
 #[test]
 fn ends_runs(rt: HostRuntime) -> Result<(), Fail> {
-    let journals = [
-        ("statements\nfoo", 2, Expected::Call),
-        ("statements\r\n", 1, Expected::Call),
-        (
-            "open agents 2 days 1 weekday 0\nagent 1 role 1 capacity 0 power 0\npost hour 1 price 1",
-            3,
-            Expected::AgentLine(2, 2),
-        ),
-        (
-            "open agents 2 days 1 weekday 0\nagent 2 role 1 capacity 0 power 0",
-            2,
-            Expected::AgentLine(1, 2),
-        ),
-        (
-            "open agents 4294967295 days 1 weekday 0\n",
-            2,
-            Expected::AgentLine(1, 4294967295),
-        ),
-        (
-            "open agents 0 days 1 weekday 0\nagent 1 role 1 capacity 0 power 0",
-            2,
-            Expected::NoAgentLine,
-        ),
-        (
-            "# none\nline class 1 cause 0 injected 1 withdrawn 1 gross 1 factor 1 cost 1",
-            2,
-            Expected::NoPostingLine,
-        ),
-        ("\npacket 08EG", 2, Expected::Digits),
-    ];
-    for (text, line, wanted) in journals {
+    for (text, line, wanted) in ENDED_RUNS {
         for outcome in [settling::settle(&rt, text), auditing::audit(&rt, text)] {
             match outcome {
                 Err(Trouble::Malformed(at, expected)) => {

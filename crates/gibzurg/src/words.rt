@@ -3,11 +3,12 @@ use crate::dollars::Dollars;
 use audit::{Call, Report};
 use book::{BookFault, Statement};
 use forms::Role;
+use settlement::State;
 use std::fmt;
+use tally::MoneyLine;
 use thiserror::Error;
 
-/// A call, as its answer names it.
-// Kept beside `Request` and `Call`, which are no plainer as a heading: an answer outlives its call, and shows no more of it than this.
+/// A call, as its answer names it, which outlives the call.
 #[derive(Clone, Copy, Debug, PartialEq)]
 pub(crate) enum Heading {
     Open,
@@ -24,7 +25,7 @@ pub(crate) enum Heading {
 impl From<&Call> for Heading {
     fn from(call: &Call) -> Heading {
         match call {
-            Call::Post(posting) => Heading::Post(posting.hour),
+            Call::Post { hour, .. } => Heading::Post(*hour),
             Call::Packet(_) => Heading::Packet,
             Call::Withdraw(hour) => Heading::Withdraw(*hour),
             Call::Enter { number, .. } => Heading::Contract(*number),
@@ -88,7 +89,6 @@ impl fmt::Display for Reply {
 }
 
 /// The word for a role.
-// Kept beside the table by which words are read, which is no plainer here: it would be searched by place, and may hold no word.
 fn role_word(role: Role) -> &'static str {
     match role {
         Role::Generator => "generator",
@@ -97,20 +97,21 @@ fn role_word(role: Role) -> &'static str {
     }
 }
 
-/// Whether a statement may still change.
-#[derive(Clone, Copy)]
-pub(crate) enum Stage {
-    Provisional,
-    Final,
+/// The word for a statement of a month in this state.
+fn state_word(state: State) -> &'static str {
+    match state {
+        State::Open => "provisional",
+        State::Closed => "final",
+    }
 }
 
-impl Stage {
-    /// The word for it.
-    fn word(self) -> &'static str {
-        match self {
-            Stage::Provisional => "provisional",
-            Stage::Final => "final",
-        }
+/// The word for a money line, which begins its line of a statement.
+pub(crate) fn line_word(line: MoneyLine) -> &'static str {
+    match line {
+        MoneyLine::Market => "Market",
+        MoneyLine::Contract => "Contracts",
+        MoneyLine::Overcost => "Overcost",
+        MoneyLine::Power => "Power",
     }
 }
 
@@ -119,7 +120,7 @@ impl Stage {
 pub(crate) struct Sheet {
     pub(crate) agent: u32,
     pub(crate) role: Option<Role>,
-    pub(crate) stage: Stage,
+    pub(crate) state: State,
     pub(crate) statement: Statement,
 }
 
@@ -127,15 +128,14 @@ impl fmt::Display for Sheet {
     fn fmt<W: fmt::Write>(&self, f: &mut fmt::Formatter<W>) -> fmt::Result {
         let agent = self.agent;
         let role = self.role.map_or("unknown role", role_word);
-        let stage = self.stage.word();
+        let state = state_word(self.state);
         let lines = self.statement.lines;
         let energy = self.statement.energy;
         let peak = self.statement.peak;
-        writeln!(f, "Statement of agent {agent}, {role}, {stage}.")?;
-        writeln!(f, "Market: {}.", Dollars::from(lines.market))?;
-        writeln!(f, "Contracts: {}.", Dollars::from(lines.contract))?;
-        writeln!(f, "Overcost: {}.", Dollars::from(lines.overcost))?;
-        writeln!(f, "Power: {}.", Dollars::from(lines.power))?;
+        writeln!(f, "Statement of agent {agent}, {role}, {state}.")?;
+        for line in MoneyLine::ALL {
+            writeln!(f, "{}: {}.", line_word(line), Dollars::from(lines.on(line)))?;
+        }
         writeln!(f, "Balance: {}.", Dollars::from(self.statement.balance))?;
         writeln!(f, "Injected: {} kilowatt-hours.", energy.injected)?;
         writeln!(f, "Withdrawn: {} kilowatt-hours.", energy.withdrawn)?;

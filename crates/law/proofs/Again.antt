@@ -25,9 +25,9 @@ open_with f places = record { posted = f; places = places; state = Open }
 -- ---- requests that are all done
 
 -- from a standing they are all done, and leave another
-record Leads (form : Meaning) (o : Opening) (s : Standing) (requests : List Request) (left : Standing) : Type 0 where
-  all : list_all is_done (replies_from form o s requests) ≡ true
-  end : standing_after form o s requests ≡ left
+pub record Leads (form : Meaning) (o : Opening) (s : Standing) (requests : List Request) (left : Standing) : Type 0 where
+  pub all : list_all is_done (replies_from form o s requests) ≡ true
+  pub end : standing_after form o s requests ≡ left
 
 -- open months with the same contracts are the same where they have the same posting at each hour
 posted_alike : (f g : ℕ → Option Posting) (places : List (Option Contract)) → ((h : ℕ) → f h ≡ g h) → open_with f places ≡ open_with g places
@@ -147,7 +147,7 @@ module _ (form : Meaning) (o : Opening) where
         (record { all = refl; end = refl })
 
     -- the contracts, the postings and the closing, one after the other
-    again_leads : Leads form o nothing_stands (only_standing o s) (closed_as s.state)
+    pub again_leads : Leads form o nothing_stands (only_standing o s) (closed_as s.state)
     again_leads =
         let none : entered s.places ≡ up_to 0 = posted_alike _ _ s.places (λ h. grind (arith, nat_tests)) in
         let blank : entered (replicate (length s.places) None) ≡ nothing_stands = ap (λ n. entered (replicate n None)) sound.long in
@@ -157,10 +157,6 @@ module _ (form : Meaning) (o : Opening) where
         (subst (λ t. Leads form o nothing_stands (entries_of 1 s.places) t) none (subst (λ t. Leads form o t (entries_of 1 s.places) (entered s.places)) blank contracts))
         (leads_append (up_to 0) (postings_of s.posted 0 (hours_in o)) (closing_of s.state) (up_to (hours_in o)) (closed_as s.state)
         (postings_lead (hours_in o) 0 (omega arith)) (closing_lead s.state refl))
-
-    -- every request is done
-    pub again_done : list_all is_done (replies_from form o nothing_stands (only_standing o s)) ≡ true
-    again_done = again_leads.all
 
     -- and the same stands
     pub again_level : Level o s (after form o (only_standing o s))

@@ -53,31 +53,25 @@ module _ (form : Meaning) (keeps : Keeps form) (o : Opening) (opened : Opened o)
   told_alike s sound r _ = refl
 
   -- of every list of requests, from whatever stands
-  replies_from_alike : (s : Standing) → Sound form o s → (requests : List Request) → replies_from same o s requests ≡ replies_from form o s requests
+  pub replies_from_alike : (s : Standing) → Sound form o s → (requests : List Request) → replies_from same o s requests ≡ replies_from form o s requests
   replies_from_alike s sound [] = refl
   replies_from_alike s sound (r ∷ rs) =
       let rest = ap (λ t. replies_from same o t rs) (next_alike s r) ∙ replies_from_alike (next form o s r) (sound_next form o s sound r) rs in
       let told = ap (told_as same o s r) (manner_alike s r) ∙ told_alike s sound r (manner form o s r) in λ t. told t ∷ rest t
 
-  standing_after_alike : (s : Standing) (requests : List Request) → standing_after same o s requests ≡ standing_after form o s requests
+  pub standing_after_alike : (s : Standing) (requests : List Request) → standing_after same o s requests ≡ standing_after form o s requests
   standing_after_alike s [] = refl
   standing_after_alike s (r ∷ rs) = ap (λ t. standing_after same o t rs) (next_alike s r) ∙ standing_after_alike (next form o s r) rs
 
   module _ (requests : List Request) where
-    pub replies_alike : replies_from same o nothing_stands requests ≡ replies_from form o nothing_stands requests
-    replies_alike = replies_from_alike nothing_stands (sound_none form o) requests
-
-    pub after_alike : after same o requests ≡ after form o requests
-    after_alike = standing_after_alike nothing_stands requests
-
     -- the statement of each agent at the end
     statement_alike : (i : ℕ) → worked same o (after same o requests) i ≡ worked form o (after form o requests) i
-    statement_alike i = ap (λ s. worked same o s i) after_alike ∙ worked_alike (after form o requests) (sound_after form o requests) i
+    statement_alike i = ap (λ s. worked same o s i) (standing_after_alike nothing_stands requests) ∙ worked_alike (after form o requests) (sound_after form o requests) i
 
     -- so a book that was run by the one was run as the other says
     pub ran_alike : (book : Book) → Ran same o requests book → Ran form o requests book
     ran_alike book ran = record {
-      answers = ran.answers ∙ replies_alike;
+      answers = ran.answers ∙ replies_from_alike nothing_stands (sound_none form o) requests;
       stands = ran.stands ∙ map_counting_same (count_in o) (worked same o (after same o requests)) (worked form o (after form o requests)) (λ i agent. statement_alike i);
       together =
           ran.together

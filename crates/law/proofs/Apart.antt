@@ -1,8 +1,8 @@
 -- A book that hears a list of requests, and one that hears it without those about contracts. Assumes nothing.
-use Rattle.std.proofs.Common.{◌≡◌, Bool, true, false, cond, List, [], ◌∷◌, map, replicate, None, sym, refl, ap, ◌∙◌}
-use Rattle.std.proofs.lemmas.Bool.{true≢false, false≢true}
+use Rattle.std.proofs.Common.{◌≡◌, true, false, cond, List, [], ◌∷◌, map, replicate, None, sym, refl, ap, ◌∙◌, ⊎_elim}
+use Rattle.std.proofs.lemmas.Bool.{true≢false, false≢true, cases_Bool}
 use Rattle.forms.specs.{Limits.most_contracts, Meaning.Meaning}
-use Rattle.law.specs.{Requests.Opening, Requests.Request, Requests.entering, Requests.cancelling, Requests.statement, Requests.about_contracts, Requests.without_contracts, Requests.told_without, Standing.Standing, Faults.fault_met, Turns.Manner, Turns.was_done, Turns.was_skipped, Requests.can_ask, Turns.judged, Turns.manner, Turns.left_by, Turns.next, Turns.standing_after, Replies.Reply, Replies.told_as, Replies.reply, Replies.replies_from, Replies.manner_of}
+use Rattle.law.specs.{Requests.Opening, Requests.Request, Requests.entering, Requests.cancelling, Requests.statement, Requests.about_contracts, Requests.without_contracts, Requests.told_without, Standing.Standing, Faults.fault_met, Turns.Manner, Turns.was_done, Turns.was_skipped, Requests.can_ask, Turns.judged, Turns.manner, Turns.left_by, Turns.next, Turns.standing_after, Replies.told_as, Replies.reply, Replies.replies_from, Replies.manner_of}
 
 -- what stands, its contracts apart
 abbrev pub apart : Standing → Standing
@@ -50,27 +50,18 @@ module _ (form : Meaning) (o : Opening) where
   -- what stands without the requests about contracts is what stands with them, its contracts apart
   pub from_apart : (s : Standing) (requests : List Request) → standing_after form o (apart s) (without_contracts requests) ≡ apart (standing_after form o s requests)
   from_apart s [] = refl
-  from_apart s (r ∷ rs) = at (about_contracts r) refl ∙ from_apart (next form o s r) rs
-    where
-      at : (about : Bool) → about_contracts r ≡ about →
-          standing_after form o (apart s) (cond about (without_contracts rs) (r ∷ without_contracts rs)) ≡ standing_after form o (apart (next form o s r)) (without_contracts rs)
-      at true about = ap (λ t. standing_after form o t (without_contracts rs)) (left_about s r (manner form o s r) about)
-      at false other = ap (λ t. standing_after form o t (without_contracts rs)) (next_apart s r other)
+  from_apart s (r ∷ rs) =
+      let after = from_apart (next form o s r) rs in
+      let left = λ (t : Standing). standing_after form o t (without_contracts rs) in
+      ⊎_elim (λ (about : about_contracts r ≡ true). rw about (ap left (left_about s r (manner form o s r) about) ∙ after))
+      (λ (other : about_contracts r ≡ false). rw other (ap left (next_apart s r other) ∙ after)) (cases_Bool (about_contracts r))
 
   -- requests that both books heard are answered in the same manner
   pub alike_from : (s : Standing) (requests : List Request) →
       map manner_of (told_without requests (replies_from form o s requests)) ≡ map manner_of (replies_from form o (apart s) (without_contracts requests))
   alike_from s [] = refl
-  alike_from s (r ∷ rs) = at (about_contracts r) refl (alike_from (next form o s r) rs)
-    where
-      told : List Reply
-      told = replies_from form o (next form o s r) rs
-
-      rest : Standing → List Manner
-      rest t = map manner_of (replies_from form o t (without_contracts rs))
-
-      at : (about : Bool) → about_contracts r ≡ about → map manner_of (told_without rs told) ≡ rest (apart (next form o s r)) →
-          map manner_of (cond about (told_without rs told) (reply form o s r ∷ told_without rs told)) ≡
-          map manner_of (replies_from form o (apart s) (cond about (without_contracts rs) (r ∷ without_contracts rs)))
-      at true about same = same ∙ ap rest (sym (left_about s r (manner form o s r) about))
-      at false other same = let after : _ ≡ _ = same ∙ ap rest (sym (next_apart s r other)) in λ t. manner_apart s r other t ∷ after t
+  alike_from s (r ∷ rs) =
+      let same = alike_from (next form o s r) rs in
+      let rest = λ (t : Standing). map manner_of (replies_from form o t (without_contracts rs)) in
+      ⊎_elim (λ (about : about_contracts r ≡ true). rw about (same ∙ ap rest (sym (left_about s r (manner form o s r) about))))
+      (λ (other : about_contracts r ≡ false). rw other (λ t. manner_apart s r other t ∷ (same ∙ ap rest (sym (next_apart s r other))) t)) (cases_Bool (about_contracts r))

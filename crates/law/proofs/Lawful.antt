@@ -4,7 +4,7 @@ use Rattle.std.proofs.Common.{◌≡◌, List, map, ℤ, neg_ℤ, sym, refl, ap,
 use Rattle.tally.proofs.Numbers.{map_counting_same}
 use Rattle.forms.specs.Meaning.{Meaning, Keeps, Alike}
 use Rattle.law.specs.{Law.Book, Law.Ran, Law.Settled, Law.unspoilt, Requests.Opening, Requests.count_in, Requests.Request, Requests.without_contracts, Requests.told_without, Standing.Standing, Standing.nothing_stands, Turns.after, Only.only_standing, Worked.worked, Worked.residue_after, Replies.manner_of, Replies.is_done}
-use Rattle.law.proofs.{Alike.replies_alike, Alike.after_alike, Alike.ran_alike, Again.again_done, Again.again_level, Apart.from_apart, Apart.alike_from, Balance.balanced, Order.order, Sound.Opened, Sound.Sound, Soundness.sound_after, Strangers.strangers, Unspoilt.unspoilt_told}
+use Rattle.law.proofs.{Alike.replies_from_alike, Alike.standing_after_alike, Alike.ran_alike, Again.again_leads, Again.again_level, Apart.from_apart, Apart.alike_from, Balance.balanced, Order.order, Sound.Opened, Sound.Sound, Soundness.sound_none, Soundness.sound_after, Strangers.strangers, Unspoilt.unspoilt_told}
 
 module _ (form : Meaning) (keeps : Keeps form) (o : Opening) (opened : Opened o) (requests : List Request) where
   -- what stands after the list
@@ -36,9 +36,13 @@ module _ (form : Meaning) (keeps : Keeps form) (o : Opening) (opened : Opened o)
     };
     strangers = record { same = strangers form o requests };
     order = record { same = λ same alike other level i agent. order form keeps o opened whole whole_sound same alike (after same o other) level i };
-    forms = record { answers = replies_alike form keeps o opened; stands = after_alike form keeps o opened; run = ran_alike form keeps o opened };
+    forms = record {
+      answers = λ same alike. replies_from_alike form keeps o opened same alike nothing_stands (sound_none form o);
+      stands = λ same alike. standing_after_alike form keeps o opened same alike nothing_stands;
+      run = ran_alike form keeps o opened;
+    };
     again = record {
-      accepted = ap (list_all is_done) run_again.answers ∙ again_done form o whole whole_sound;
+      accepted = ap (list_all is_done) run_again.answers ∙ (again_leads form o whole whole_sound).all;
       level = again_level form o whole whole_sound;
       same =
           run_again.stands

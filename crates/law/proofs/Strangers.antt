@@ -6,7 +6,7 @@ use Rattle.tally.specs.LinesLaws.{lines_lawful}
 use Rattle.tally.proofs.{Sums.total_over_same, Sums.All-passing, Numbers.int_sum_by_zero}
 use Rattle.forms.specs.{declared.Contract.Contract, Meaning.Meaning, Parties.party_numbers, Parties.points_of}
 use Rattle.settlement.specs.{ContractFaults.covers, Posting.line_at, Posting.Posting, Setting.Setting, Legs.is_number, Legs.given_to, Legs.given_in, Legs.legs_of, Legs.contract_line, Hour.caused_sum, Hour.carried_by, Hour.figures_with}
-use Rattle.law.specs.{Requests.Opening, Requests.count_in, Requests.hours_in, Requests.Request, Requests.without_contracts, Standing.Standing, Standing.nothing_stands, Standing.setting_in, Turns.after, Parties.is_party, Parties.is_stranger, Worked.figures_from, Worked.figures_at, Worked.lines_between, Worked.worked}
+use Rattle.law.specs.{Requests.Opening, Requests.count_in, Requests.hours_in, Requests.Request, Requests.without_contracts, Standing.Standing, Standing.nothing_stands, Standing.setting_in, Turns.after, Parties.is_party, Parties.is_stranger, Worked.figures_from, Worked.figures_at, Worked.worked}
 use Rattle.law.proofs.{Apart.apart, Apart.from_apart, Postings.worked_same}
 
 -- of legs by party, those that are none of the parties are given nothing
@@ -41,10 +41,9 @@ module _ (form : Meaning) (o : Opening) (i : ℕ) (s : Standing) (stranger : is_
   -- and its statement
   worked_apart : worked form o (apart s) i ≡ worked form o s i
   worked_apart =
-      let lines : lines_between form o (apart s) 0 (hours_in o) i ≡ lines_between form o s 0 (hours_in o) i =
-      total_over_same lines_lawful 0 (hours_in o) (λ hour. (figures_at form o (apart s) i hour).lines) (λ hour. (figures_at form o s i hour).lines)
-      (λ hour low within. ap (λ f. f.lines) (figures_apart (s.posted hour))) in
-      worked_same form form o (apart s) s (λ hour within. refl) i lines refl
+      worked_same form form o (apart s) s (λ hour within. refl) i
+      (total_over_same lines_lawful 0 (hours_in o) (λ hour. (figures_at form o (apart s) i hour).lines) (λ hour. (figures_at form o s i hour).lines)
+      (λ hour low within. ap (λ f. f.lines) (figures_apart (s.posted hour)))) refl
 
 -- whatever was asked
 pub strangers : (form : Meaning) (o : Opening) (requests : List Request) (i : ℕ) → i < count_in o → is_stranger i (after form o requests).places ≡ true →

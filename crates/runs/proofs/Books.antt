@@ -22,7 +22,7 @@ module _ (f : MonthFigures) (m : Memory) (opens : open_fault f m ≡ None) where
   abbrev pub opening : Opening
   opening = opening_of f m.agents
 
-  -- the faults of an opening
+  -- the faults of an opening, of which none was met
   abbrev rows : List (Option BookFault)
   rows = met_if (not (size_known f)) OutsideBook ∷ size_fault f m ∷ met_if (not (calendar_fits f.calendar) || not (list_all agent_fits m.agents)) OutsideBook ∷ []
 
@@ -148,24 +148,16 @@ module _ (form : Meaning) (keeps : Keeps form) (f : MonthFigures) (m : Memory) (
     abbrev pub statements : List Statement
     statements = statements_in f kept.memory
 
-    -- each is the one worked from what stands
-    worked_so : (i : ℕ) → i < count_in o → worked_in (statement_in (hours_of f.days) i kept.memory) ≡ worked form o standing i
-    worked_so i agent = statements_step form keeps o (is_opened f m opens) standing standing_sound kept.memory kept_holds.memory i agent
-
-    -- and so is its balance
+    -- each is the one worked from what stands, and so is its balance
     balance_so : (i : ℕ) → i < count_in o → balance_at statements i ≡ agent_balance form o standing i
     balance_so i agent =
         ap (λ (st : Statement). st.balance) (get_or-map-range_with_len (λ k. statement_in (hours_of f.days) k kept.memory) 0 f.agents i i no_statement (omega (arith, agents_long f m opens)) (omega arith))
-        ∙ ap (λ w. w.balance) (worked_so i agent)
-
-    -- as many as agents
-    statements_long : length statements ≡ count_in o
-    statements_long = length-map-range_with_len _ 0 f.agents ∙ sym (agents_long f m opens)
+        ∙ ap (λ w. w.balance) (statements_step form keeps o (is_opened f m opens) standing standing_sound kept.memory kept_holds.memory i agent)
 
     -- all balances together are those worked from what stands, and fit 64 bits
     together_so : together statements ≡ balances_after form o standing
     together_so =
-        (λ t. int_wrap w64 (sum_to_ℤ (statements_long t) (balance_at statements)))
+        ap (λ n. int_wrap w64 (sum_to_ℤ n (balance_at statements))) (length-map-range_with_len _ 0 f.agents ∙ sym (agents_long f m opens))
         ∙ ap (int_wrap w64) (sum_to_ℤ_same (count_in o) _ _ balance_so)
         ∙ int_wrap_fits w64 _ (fits_abs _ (omega (
           arith,
@@ -178,7 +170,7 @@ module _ (form : Meaning) (keeps : Keeps form) (f : MonthFigures) (m : Memory) (
     statements_so =
         ap (λ n. map worked_in (map (λ i. statement_in (hours_of f.days) i kept.memory) (range_with_len 0 n))) (sym (agents_long f m opens))
         ∙ map-map _ _ (range_with_len 0 (count_in o))
-        ∙ map_counting_same (count_in o) _ _ worked_so
+        ∙ map_counting_same (count_in o) _ _ (statements_step form keeps o (is_opened f m opens) standing standing_sound kept.memory kept_holds.memory)
 
     -- the book as it was run
     abbrev pub book : Book

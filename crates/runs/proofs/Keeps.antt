@@ -1,6 +1,6 @@
 -- Memory that holds what stands: emptied, with an hour written anew, with a contract place changed, and with power charged. Assumes nothing.
-use Rattle.std.proofs.Common.{◌≡◌, ℕ, zero, suc, ◌+◌, ◌-◌, ◌*◌, ◌<◌, ◌≤◌, Bool, true, false, cond, not, eqb, leb, List, [], ◌∷◌, length, get_or, set, replicate, ℤ, pos, ◌+ℤ◌, ◌-ℤ◌, is_some, Some, None, Option, sym, refl, ap, ◌∙◌, ⊎_elim, mod-eq_of_lt, arith}
-use Rattle.std.proofs.lemmas.{Nat.mul-add-lt, List.FromFn.length-map-range_with_len, List.FromFn.get_or-map-range_with_len, List.length-replicate, List.get_or-replicate, List.length-set, List.get_or-set_same, List.get_or-set_other, Bool.cases_eq, Bool.cond-true, Bool.cond-false, Bool.cond_both, Bool.eq-eqb, Bool.ne_eqb, Bool.leb-true, Bool.and_parts, Bool.both_ways, Bool.not-true}
+use Rattle.std.proofs.Common.{◌≡◌, ℕ, zero, suc, ◌+◌, ◌-◌, ◌*◌, ◌<◌, ◌≤◌, Bool, true, false, cond, not, eqb, leb, List, [], ◌∷◌, length, get_or, set, replicate, ℤ, pos, ◌+ℤ◌, ◌-ℤ◌, is_some, Some, None, Option, sym, refl, ap, ◌∙◌, mod-eq_of_lt, arith}
+use Rattle.std.proofs.lemmas.{Nat.mul-add-lt, List.FromFn.length-map-range_with_len, List.FromFn.get_or-map-range_with_len, List.length-replicate, List.get_or-replicate, List.length-set, List.get_or-set_other, Grind.get_or-set_at, Bool.Decides.nat_tests, Bool.cond-true, Bool.cond_both, Bool.eq-eqb, Bool.leb-true, Bool.and_parts, Bool.both_ways, Bool.not-true}
 use Rattle.tally.specs.{declared.money.MoneyLine.TheVariants.Power, Energy.energy_of, Lines.no_lines, Lines.lines_joined, Lines.alone, LinesLaws.lines_lawful, Money.money_of, Pair.pair_of, Sums.int_sum_by}
 use Rattle.tally.proofs.{Failing.each_passed, Numbers.sum_to_const_zero, Numbers.map_counting_same, Sums.total_over_same, Sums.total_over_none}
 use Rattle.valuation.specs.Sharing.{part_of}
@@ -16,10 +16,7 @@ use Rattle.runs.proofs.{Accounts.account-changed, Accounts.account_charged, Colu
 -- a list with one place changed
 get_or-set : {X : Type 0} (xs : List X) (k j : ℕ) (x d : X) → k < length xs → get_or (set xs k x) j d ≡ cond (eqb j k) x (get_or xs j d)
 get_or-set xs k j x d within =
-    ⊎_elim
-    (λ (here : j ≡ k). ap (λ n. get_or (set xs k x) n d) here ∙ get_or-set_same xs k x d within ∙ sym (cond-true (eqb j k) x _ (eq-eqb j k here)))
-    (λ (apart : j ≡ k → ⊥). get_or-set_other xs k j x d apart ∙ sym (cond-false (eqb j k) x _ (ne_eqb j k apart)))
-    (cases_eq j k)
+    grind (arith, nat_tests, get_or-set_at, get_or-set_other)
 
 -- what is so of each of two is so of the one that a test picks
 picked : {X Y : Type 0} (f : X → Y) (b : Bool) (y y' : Y) (x x' : X) → (b ≡ true → y ≡ f x) → y' ≡ f x' → cond b y y' ≡ f (cond b x x')
@@ -36,10 +33,6 @@ int_sum_by_same_set f (y ∷ ys) (suc k) x d same = ap (λ z. f y +ℤ z) (int_s
 
 -- with the entries and the mark of what now stands there
 module _ (form : Meaning) (o : Opening) (s : Standing) (m : Memory) (held : Held form o s m) (is : s.state ≡ Open) (hour : ℕ) (within : hour < hours_in o) (p : Option Posting) where
-  -- at this hour what is written
-  here : (standing_with hour p s).posted hour ≡ p
-  here = cond-true (eqb hour hour) p _ (eq-eqb hour hour refl)
-
   -- memory holds what now stands
   pub held_rewritten : (mark : ℕ) (new : ℕ → Holding) → mark ≡ mark_for p → ((i : ℕ) → i < count_in o → new i ≡ entry_of (figures_from (setting_in form o s) i p)) →
       Held form o (standing_with hour p s) (rewritten (hours_in o) hour mark new m)
@@ -56,7 +49,7 @@ module _ (form : Meaning) (o : Opening) (s : Standing) (m : Memory) (held : Held
     accounts = λ i agent.
         account_with_lem (hours_in o) hour new m.entries m.accounts i (omega (arith, held.accounts_long))
         ∙ (λ t. account_with (held.accounts i agent t) (held.entries i hour agent within t)
-        ((written i agent ∙ ap (λ q. entry_of (figures_from (setting_in form o s) i q)) (sym here)) t))
+        ((written i agent ∙ ap (λ q. entry_of (figures_from (setting_in form o s) i q)) (sym (cond-true (eqb hour hour) p (s.posted hour) (eq-eqb hour hour refl)))) t))
         ∙ account-changed form o s is hour within p i;
   }
 

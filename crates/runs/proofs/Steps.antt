@@ -11,7 +11,7 @@ use Rattle.settlement.proofs.{Checked.hour_within, FaultTables.unmet, FaultTable
 use Rattle.book.specs.{Closing.close_fault, Entering.enter_fault, Entering.cancel_fault, Memory.Memory, Memory.is_posted, Months.setting_with, Outcomes.outcome, Posting.post_fault, Posting.unread_fault, Statements.statement_in, Statements.statement_fault, Withdrawal.withdraw_fault}
 use Rattle.law.specs.{Faults.fault_met, Replies.accepted, Replies.stated, Replies.refused, Replies.done, Replies.told_as, Replies.reply, Requests.Opening, Requests.count_in, Requests.hours_in, Requests.Request, Requests.posting, Requests.unread, Requests.withdrawal, Requests.entering, Requests.cancelling, Requests.closing, Requests.statement, Standing.Standing, Standing.stands, Standing.setting_in, Requests.can_ask, Turns.Manner, Turns.was_done, Turns.was_refused, Turns.was_skipped, Turns.manner, Turns.changed, Turns.left_by, Turns.next}
 use Rattle.law.proofs.{Sound.Opened, Sound.Sound, Turns.manner_asked, Turns.manner_unasked}
-use Rattle.runs.specs.{Reading.reply_of, Runs.Kept, Runs.kept_of, Runs.Turn, Runs.turn_of, Runs.done_as, Runs.stated_as, Runs.state_after, Runs.asked, Runs.skipped_by, Runs.heard}
+use Rattle.runs.specs.{Reading.reply_of, Runs.kept_of, Runs.Turn, Runs.turn_of, Runs.done_as, Runs.stated_as, Runs.state_after, Runs.asked, Runs.skipped_by, Runs.heard}
 use Rattle.runs.proofs.{Fits.past_memory, Fits.no_size_fault, Holds.figures_of_opening, Holds.Held, Holds.Holds, Holds.mark_for, Keeps.held_rewritten, Keeps.held_placed, Keeps.held_charged, Keeps.weights_read, Statements.statements_step}
 
 -- a mark other than 0 tells that a posting stands
@@ -202,22 +202,9 @@ module _ (form : Meaning) (keeps : Keeps form) (o : Opening) (opened : Opened o)
       (λ none. record { state = refl; memory = held_charged form keeps o opened s sound m held at })
 
   -- whether it can be asked or not
-  heard_step : (state : State) → s.state ≡ state → (r : Request) → Stepped form o s r (heard form (figures_of_opening o) r (kept_of state m))
+  pub heard_step : (state : State) → s.state ≡ state → (r : Request) → Stepped form o s r (heard form (figures_of_opening o) r (kept_of state m))
   heard_step state at r = by (can_ask state r) (ap (λ st. can_ask st r) at)
     where
       by : (asks : Bool) → can_ask s.state r ≡ asks → Stepped form o s r (if asks then asked form (figures_of_opening o) r (kept_of state m) else skipped_by (kept_of state m))
       by true asks = asked_step state at r asks
       by false never = stepped_as r was_skipped (manner_unasked form o s r never) _ refl (record { state = sym at; memory = held })
-
-module _ (form : Meaning) (keeps : Keeps form) (o : Opening) (opened : Opened o) (s : Standing) (sound : Sound form o s) (k : Kept) (holds : Holds form o s k) (r : Request) where
-  -- any request on a book that holds what stands
-  pub stepped : Stepped form o s r (heard form (figures_of_opening o) r k)
-  stepped = heard_step form keeps o opened s sound k.memory holds.memory k.state (sym holds.state) r
-
-  -- is answered as worked from what stands
-  pub heard_reply : reply_of (heard form (figures_of_opening o) r k).answer ≡ reply form o s r
-  heard_reply = stepped.told
-
-  -- and leaves a book that holds what then stands
-  pub heard_holds : Holds form o (next form o s r) (heard form (figures_of_opening o) r k).kept
-  heard_holds = stepped.holds

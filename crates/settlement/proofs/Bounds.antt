@@ -1,8 +1,7 @@
 -- How large the excess of an hour is at most. Assumes nothing.
-use Rattle.std.proofs.Common.{◌≡◌, ℕ, ◌+◌, ◌<◌, ◌≤◌, Bool, true, false, cond, ◌&&◌, eqb, leb, List, length, get_or, Some, None, Option, ap, ◌∙◌, arith}
-use Rattle.std.proofs.lemmas.{List.FromFn.length-map-range_with_len, List.get_or_default, Bool.and_parts, Bool.leb-true, Bool.Decides.nat_tests}
-use Rattle.valuation.specs.Limits.{most_energy, most_price, least_factor, most_factor, most_cost_amount}
-use Rattle.valuation.proofs.{Amounts.excess_of_le, Sharing.part_of_le}
+use Rattle.std.proofs.Common.{◌≡◌, ℕ, ◌+◌, ◌<◌, ◌≤◌, Bool, true, false, cond, ◌&&◌, eqb, List, length, get_or, Some, None, Option, ap, ◌∙◌, arith}
+use Rattle.std.proofs.lemmas.{List.FromFn.length-map-range_with_len, List.get_or_default, Bool.Decides.nat_tests}
+use Rattle.valuation.{specs.Limits.most_energy, specs.Limits.most_price, specs.Limits.least_factor, specs.Limits.most_factor, specs.Limits.most_cost_amount, proofs.Amounts.excess_of_le, proofs.Sharing.part_of_le}
 use Rattle.settlement.specs.{declared.agents.Agent.Agent, declared.lines.Class.Class, declared.lines.Class.TheVariants.Normal, declared.lines.Line.Line, Hour.excess_in, Hour.excess_on, Hour.is_obligated, Hour.is_forced, Hour.obligated_on, Hour.obligated_sum, Hour.caused_on, Hour.caused_sum, Hour.weight_at, Hour.weights_of, Hour.carried_by, Limits.most_excess, Lines.class_of, Lines.line_within, Lines.no_line, Posting.Posting, Posting.line_at, PostingFaults.PostingFits}
 use Rattle.tally.proofs.Numbers.{sum_to_le}
 
@@ -17,18 +16,13 @@ pub record Within (l : Line) : Type 0 where
 
 pub within_limits : (l : Line) → line_within l ≡ true → Within l
 within_limits l held =
-    let a = and_parts (leb l.injected most_energy) _ held in
-    let b = and_parts (leb l.withdrawn most_energy) _ a.1 in
-    let c = and_parts (leb l.gross most_energy) _ b.1 in
-    let d = and_parts (leb least_factor l.factor) _ c.1 in
-    let e = and_parts (leb l.factor most_factor) _ d.1 in
     record {
-      injected = leb-true l.injected most_energy a.0;
-      withdrawn = leb-true l.withdrawn most_energy b.0;
-      gross = leb-true l.gross most_energy c.0;
-      least_factor = leb-true least_factor l.factor d.0;
-      most_factor = leb-true l.factor most_factor e.0;
-      cost = leb-true l.cost most_price e.1;
+      injected = grind (arith, nat_tests);
+      withdrawn = grind (arith, nat_tests);
+      gross = grind (arith, nat_tests);
+      least_factor = grind (arith, nat_tests);
+      most_factor = grind (arith, nat_tests);
+      cost = grind (arith, nat_tests);
     }
 
 module _ (price : ℕ) (l : Line) (within : Within l) where

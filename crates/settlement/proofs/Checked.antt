@@ -1,11 +1,10 @@
 -- What a posting that meets no fault is known to be. Assumes nothing.
-use Rattle.std.proofs.Common.{◌≡◌, ℕ, ◌<◌, ◌≤◌, Bool, true, false, not, eqb, ltb, length, None, sym, ap, ◌∙◌, arith}
+use Rattle.std.proofs.Common.{◌≡◌, ℕ, ◌<◌, ◌≤◌, true, false, not, eqb, ltb, length, None, sym, ap, ◌∙◌, arith}
 use Rattle.std.proofs.lemmas.Bool.{or_parts, not-false, eqb-true, leb-false, ltb-false}
 use Rattle.tally.proofs.Failing.{each_passed}
 use Rattle.forms.specs.Limits.{most_agents}
 use Rattle.valuation.specs.Limits.{most_energy, most_price}
-use Rattle.settlement.specs.{Lines.line_within, Posting.Posting, Posting.line_at, PostingFaults.head_fault, PostingFaults.limit_fault, PostingFaults.kept_at, PostingFaults.together_fault, PostingFaults.line_faults, PostingFaults.line_fault, PostingFaults.injected_together, PostingFaults.withdrawn_together, PostingFaults.uncarried, PostingFaults.posting_faults, PostingFaults.posting_fault, PostingFaults.PostingFits, Setting.Setting, Setting.hours_in}
-use Rattle.settlement.proofs.FaultTables.{unmet, NoneMet, first_met_none, mapped_none, of_posting_none}
+use Rattle.settlement.{specs.Posting.Posting, specs.PostingFaults.head_fault, specs.PostingFaults.within_at, specs.PostingFaults.limit_fault, specs.PostingFaults.kept_at, specs.PostingFaults.together_fault, specs.PostingFaults.line_faults, specs.PostingFaults.line_fault, specs.PostingFaults.injected_together, specs.PostingFaults.withdrawn_together, specs.PostingFaults.uncarried, specs.PostingFaults.posting_faults, specs.PostingFaults.posting_fault, specs.PostingFaults.PostingFits, specs.Setting.Setting, specs.Setting.hours_in, proofs.FaultTables.unmet, proofs.FaultTables.NoneMet, proofs.FaultTables.first_met_none, proofs.FaultTables.mapped_none, proofs.FaultTables.of_posting_none}
 
 module _ (count : ℕ) (p : Posting) (head : None ≡ head_fault count p) where
   heads : ((not (eqb (length p.lines) count)) ≡ false) × (ltb most_price p.price ≡ false)
@@ -19,11 +18,10 @@ module _ (count : ℕ) (p : Posting) (head : None ≡ head_fault count p) where
   pub posting_fits : count ≤ most_agents → None ≡ limit_fault p.lines → None ≡ together_fault p.lines → PostingFits p
   posting_fits few limit together =
       let sums = or_parts (ltb most_energy (injected_together p.lines)) (ltb most_energy (withdrawn_together p.lines)) (unmet _ _ together) in
-      let test : ℕ → Bool = λ i. line_within (line_at p.lines i) in
       record {
         few_lines = omega (arith, head_long);
         price_within = ltb-false _ _ heads.1;
-        each_within = λ i within. ap test (omega arith) ∙ each_passed test 0 (length p.lines) (mapped_none _ _ limit) i within;
+        each_within = λ i within. ap (within_at p.lines) (omega arith) ∙ each_passed (within_at p.lines) 0 (length p.lines) (mapped_none _ _ limit) i within;
         withdrawn_within = ltb-false _ _ sums.1;
       }
 

@@ -1,13 +1,10 @@
 -- The legs of contracts that may stand: their size, what they add up to, and that forms that are alike give the same. Assumes nothing.
 use Rattle.std.proofs.Common.{◌≡◌, ℕ, ◌+◌, ◌-◌, ◌*◌, ◌<◌, ◌≤◌, Bool, true, false, not, cond, eqb, List, [], ◌∷◌, map, length, get_or, ℤ, pos, ◌+ℤ◌, nat_abs, Some, None, Option, sym, refl, ap, ◌∙◌, subst, inl, inr, arith}
-use Rattle.std.specs.List.{All, list_all}
-use Rattle.std.proofs.lemmas.{Int.ints, Bool.and_parts, Bool.not-true, Bool.eqb-false, Bool.cases_eq, Bool.cond-true, Bool.cond-false, Bool.cond_both, Bool.eq-eqb, Bool.ne_eqb, List.Elements.All-head, List.Elements.All-tail, Slice.Zip.get_or-zip}
+use Rattle.std.{specs.List.All, specs.List.list_all, proofs.lemmas.Int.ints, proofs.lemmas.Bool.and_parts, proofs.lemmas.Bool.not-true, proofs.lemmas.Bool.eqb-false, proofs.lemmas.Bool.cases_eq, proofs.lemmas.Bool.cond-true, proofs.lemmas.Bool.cond-false, proofs.lemmas.Bool.cond_both, proofs.lemmas.Bool.eq-eqb, proofs.lemmas.Bool.ne_eqb, proofs.lemmas.List.Elements.All-head, proofs.lemmas.List.Elements.All-tail, proofs.lemmas.Slice.Zip.get_or-zip}
 use Rattle.calendar.specs.Limits.{most_days}
-use Rattle.tally.specs.{Lawful.Lawful, Sums.sum_to_ℤ, Total.total_over}
-use Rattle.tally.proofs.{Numbers.int_lawful, Numbers.sum_to_ℤ_const_zero, Numbers.sum_to_ℤ_add, Numbers.int_sum_by_same, Numbers.int_sum_by_zero, Numbers.int_sum_by_abs, Numbers.int_sum_over_by, Sums.All-passing, Sums.total_over_changed, Sums.total_over_none, Totals.right_identity}
+use Rattle.tally.{specs.Lawful.Lawful, specs.Sums.sum_to_ℤ, specs.Total.total_over, proofs.Numbers.int_lawful, proofs.Numbers.sum_to_ℤ_const_zero, proofs.Numbers.sum_to_ℤ_add, proofs.Numbers.int_sum_by_same, proofs.Numbers.int_sum_by_zero, proofs.Numbers.int_sum_by_abs, proofs.Numbers.int_sum_over_by, proofs.Sums.All-passing, proofs.Sums.total_over_changed, proofs.Sums.total_over_none, proofs.Totals.right_identity}
 use Rattle.forms.specs.{declared.Contract.Contract, declared.Legs.Legs, Limits.most_leg, Meaning.Meaning, Meaning.MayAsk, Meaning.Balanced, Meaning.Keeps, Meaning.Alike, Parties.party_numbers, Parties.points_of, Parties.points_together, Parties.legs_by_party, Terms.numbers_apart}
-use Rattle.settlement.specs.{ContractFaults.parties_of, ContractFaults.PartiesKnown, ContractFaults.contract_fits, ContractFaults.place_fits, ContractFaults.covers, Legs.facts_of, Legs.legs_of, Legs.is_number, Legs.given_to, Legs.given_in, Legs.contract_points_of, Legs.contract_line, Posting.Posting, PostingFaults.PostingFits, Setting.Setting}
-use Rattle.settlement.proofs.Settles.{fitting, settles}
+use Rattle.settlement.{specs.ContractFaults.parties_of, specs.ContractFaults.PartiesKnown, specs.ContractFaults.contract_fits, specs.ContractFaults.place_fits, specs.ContractFaults.covers, specs.Legs.facts_of, specs.Legs.legs_of, specs.Legs.is_number, specs.Legs.given_to, specs.Legs.given_in, specs.Legs.contract_points_of, specs.Legs.contract_line, specs.Posting.Posting, specs.PostingFaults.PostingFits, specs.Setting.Setting, proofs.Settles.fitting, proofs.Settles.settles}
 
 -- ---- legs by party
 

@@ -1,15 +1,11 @@
 -- What an hour gives all agents together: it comes out even. Assumes nothing.
 use Rattle.std.proofs.Common.{◌≡◌, ℕ, ◌+◌, ◌-◌, ◌<◌, ◌≤◌, Bool, true, false, cond, ◌&&◌, eqb, ltb, leb, List, length, pos, neg_ℤ, Some, sum, Option, sym, refl, ◌∙◌, subst, inl, inr, eq-zero-or-pos, arith}
-use Rattle.std.specs.List.{list_all}
-use Rattle.std.proofs.lemmas.{List.FromFn.length-map-range_with_len, Int.ints, Bool.false≢true, Bool.and_parts, Bool.leb-true, Bool.Decides.nat_tests}
-use Rattle.valuation.specs.Sharing.{part_of}
-use Rattle.valuation.proofs.Sharing.{sum-parts_of, part_of_no_points}
-use Rattle.settlement.specs.{declared.agents.Agent.Agent, declared.lines.Class.Class, declared.lines.Class.TheVariants.Obligated, declared.lines.Class.TheVariants.Forced, declared.lines.Line.Line, Agents.role_at, Hour.injected_amount, Hour.withdrawn_amount, Hour.market_line, Hour.excess_in, Hour.excess_on, Hour.is_obligated, Hour.is_forced, Hour.obligated_on, Hour.obligated_sum, Hour.caused_on, Hour.caused_sum, Hour.weight_at, Hour.weights_of, Hour.carried_by, Hour.overcost_line, Hour.residue_of, Lines.class_of, Lines.must_run, Lines.class_kept, Posting.Posting, Posting.line_at, PostingFaults.kept_at, PostingFaults.uncarried, ContractFaults.place_fits, Legs.hour_of, Setting.Setting, Setting.count_in}
+use Rattle.std.{specs.List.list_all, proofs.lemmas.List.FromFn.length-map-range_with_len, proofs.lemmas.Int.ints, proofs.lemmas.Bool.false≢true, proofs.lemmas.Bool.and_parts, proofs.lemmas.Bool.leb-true, proofs.lemmas.Bool.Decides.nat_tests}
+use Rattle.valuation.{specs.Sharing.part_of, proofs.Sharing.sum-parts_of, proofs.Sharing.part_of_no_points}
+use Rattle.settlement.{specs.declared.agents.Agent.Agent, specs.declared.lines.Class.Class, specs.declared.lines.Class.TheVariants.Obligated, specs.declared.lines.Class.TheVariants.Forced, specs.declared.lines.Line.Line, specs.Agents.role_at, specs.Hour.injected_amount, specs.Hour.withdrawn_amount, specs.Hour.market_line, specs.Hour.excess_in, specs.Hour.excess_on, specs.Hour.is_obligated, specs.Hour.is_forced, specs.Hour.obligated_on, specs.Hour.obligated_sum, specs.Hour.caused_on, specs.Hour.caused_sum, specs.Hour.weight_at, specs.Hour.weights_of, specs.Hour.carried_by, specs.Hour.overcost_line, specs.Hour.residue_of, specs.Lines.class_of, specs.Lines.must_run, specs.Lines.class_kept, specs.Posting.Posting, specs.Posting.line_at, specs.PostingFaults.kept_at, specs.PostingFaults.uncarried, specs.ContractFaults.place_fits, specs.Legs.hour_of, specs.Setting.Setting, specs.Setting.count_in, proofs.Checked.Checked, proofs.ContractLines.once, proofs.ContractLines.contract_lines_together}
 use Rattle.forms.specs.{declared.roles.Role.Role, Meaning.Keeps}
 use Rattle.calendar.specs.Limits.{most_days}
-use Rattle.tally.specs.{declared.money.MoneyLine.TheVariants.Market, declared.money.MoneyLine.TheVariants.Contract, declared.money.MoneyLine.TheVariants.Overcost, declared.money.MoneyLine.TheVariants.Power, Lines.Lines, Lines.no_lines, Sums.sum_to, Sums.sum_to_ℤ, Sums.lines_over}
-use Rattle.tally.proofs.{Lines.line_on-over, Numbers.nat_lawful, Numbers.sum_to_same, Numbers.sum_to_const_zero, Numbers.sum_to_zero, Numbers.sum_to_add, Numbers.sum_to_swap, Numbers.sum_to_ℤ_const_zero, Numbers.sum_to_ℤ_less, Numbers.sum_counting}
-use Rattle.settlement.proofs.{Checked.Checked, ContractLines.once, ContractLines.contract_lines_together}
+use Rattle.tally.{specs.declared.money.MoneyLine.TheVariants.Market, specs.declared.money.MoneyLine.TheVariants.Contract, specs.declared.money.MoneyLine.TheVariants.Overcost, specs.declared.money.MoneyLine.TheVariants.Power, specs.Lines.Lines, specs.Lines.no_lines, specs.Sums.sum_to, specs.Sums.sum_to_ℤ, specs.Sums.lines_over, proofs.Lines.line_on-over, proofs.Numbers.nat_lawful, proofs.Numbers.sum_to_same, proofs.Numbers.sum_to_const_zero, proofs.Numbers.sum_to_zero, proofs.Numbers.sum_to_add, proofs.Numbers.sum_to_swap, proofs.Numbers.sum_to_ℤ_const_zero, proofs.Numbers.sum_to_ℤ_less, proofs.Numbers.sum_counting}
 
 -- ---- the excess of a line
 

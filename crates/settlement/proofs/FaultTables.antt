@@ -1,8 +1,7 @@
 -- Tables of faults of which none is met. Assumes nothing.
 use Rattle.std.proofs.Common.{◌≡◌, Bool, true, false, not, List, [], ◌∷◌, Some, None, Option, refl, sym}
 use Rattle.std.specs.Prelude.{is_none}
-use Rattle.std.specs.Option.{option_map}
-use Rattle.std.proofs.lemmas.Bool.{not-false}
+use Rattle.std.{specs.Option.option_map, proofs.lemmas.Bool.not-false}
 use Rattle.settlement.specs.{declared.faults.LineFault.LineFault, Faults.met_if, Faults.first_met, Faults.of_posting}
 
 -- a fault that is not met: its test failed

@@ -1,13 +1,10 @@
 -- The weights of a month's power, and what each account is charged. Assumes nothing.
-use Rattle.std.proofs.Common.{◌≡◌, ℕ, ◌<◌, ◌≤◌, List, length, get_or, sum, ap, ◌∙◌, arith}
+use Rattle.std.proofs.Common.{◌≡◌, ℕ, ◌<◌, ◌≤◌, List, length, sum, ap, arith}
 use Rattle.std.proofs.lemmas.List.FromFn.{length-map-range_with_len}
-use Rattle.valuation.specs.Sharing.{parts_of}
-use Rattle.valuation.proofs.Sharing.{part_of_le, slice_index_or-parts_of}
-use Rattle.settlement.specs.{declared.agents.Agent.Agent, Agents.agent_at, Holdings.Holding, Holdings.no_holding, Holdings.withdrawn_on, Holdings.all_withdrawn, Power.power_due, Power.power_weight, Power.power_weights, Power.power_part}
+use Rattle.valuation.proofs.Sharing.{part_of_le}
+use Rattle.settlement.{specs.declared.agents.Agent.Agent, specs.Agents.agent_at, specs.Holdings.Holding, specs.Holdings.no_holding, specs.Holdings.withdrawn_on, specs.Holdings.all_withdrawn, specs.Power.power_due, specs.Power.power_weight, specs.Power.power_weights, specs.Power.power_part, proofs.Sharing.counted_le}
 use Rattle.forms.specs.Roles.{carries}
-use Rattle.tally.specs.Sums.{sum_to}
-use Rattle.settlement.proofs.Sharing.{counted_le}
-use Rattle.tally.proofs.Numbers.{sum_to_mono, sum_by_list, sum_counting}
+use Rattle.tally.{specs.Sums.sum_to, proofs.Numbers.sum_to_mono, proofs.Numbers.sum_by_list, proofs.Numbers.sum_counting}
 
 module _ (agents : List Agent) (accounts : List Holding) (long : length accounts ≡ length agents) where
   -- all weights together are at most the withdrawn energy of all accounts
@@ -23,8 +20,3 @@ module _ (agents : List Agent) (accounts : List Holding) (long : length accounts
 pub power_part_le : (agents : List Agent) (withdrawn : ℕ → ℕ) (i : ℕ) → i < length agents → power_part agents withdrawn i ≤ power_due agents
 power_part_le agents withdrawn i within =
     part_of_le (power_due agents) (power_weights agents withdrawn) i (omega (arith, length-map-range_with_len (power_weight agents withdrawn) 0 (length agents)))
-
--- where the parts stand, the one that the agent at a place carries
-pub power_part_read : (agents : List Agent) (withdrawn : ℕ → ℕ) (parts : List ℕ) (i : ℕ) →
-    parts ≡ parts_of (power_due agents) (power_weights agents withdrawn) → get_or parts i 0 ≡ power_part agents withdrawn i
-power_part_read agents withdrawn parts i shared = ap (λ ps. get_or ps i 0) shared ∙ slice_index_or-parts_of (power_due agents) (power_weights agents withdrawn) i

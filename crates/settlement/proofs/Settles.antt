@@ -1,12 +1,10 @@
 -- A contract that may stand, in an hour whose posting fits, may be asked of its form by the facts of that hour. Assumes nothing.
-use Rattle.std.proofs.Common.{◌≡◌, ℕ, ◌+◌, ◌-◌, ◌<◌, ◌≤◌, Bool, true, false, ◌&&◌, leb, List, length, inl, inr, arith}
-use Rattle.std.specs.List.{list_all}
-use Rattle.std.proofs.lemmas.{Bool.cases_Bool, Bool.and_parts, Bool.leb-true, Bool.le-leb, Bool.cond-true, Bool.cond-false, List.Elements.All-weaker, List.Sums.AllPass-from_list_all}
+use Rattle.std.proofs.Common.{◌≡◌, ℕ, ◌+◌, ◌-◌, ◌<◌, ◌≤◌, true, false, ◌&&◌, leb, List, length, inl, inr, arith}
+use Rattle.std.{specs.List.list_all, proofs.lemmas.Bool.cases_Bool, proofs.lemmas.Bool.and_parts, proofs.lemmas.Bool.leb-true, proofs.lemmas.Bool.le-leb, proofs.lemmas.Bool.cond-true, proofs.lemmas.Bool.cond-false, proofs.lemmas.Bool.Decides.nat_tests, proofs.lemmas.List.Elements.All-weaker, proofs.lemmas.List.Sums.AllPass-from_list_all}
 use Rattle.calendar.specs.Limits.{most_days}
 use Rattle.forms.specs.{declared.Contract.Contract, declared.Facts.Facts, declared.Parties.Parties, Known.valid_of, Known.measured_of, Known.hours_fit_longest, Meaning.MayAsk, Measured.prices_fit, Measured.withdrawn_fits, Measured.Measured, Parties.party_numbers, Roles.distributes, Roles.has_role, Terms.number_fits, Terms.numbers_apart, Terms.parties_fit, Terms.hours_fit, Terms.figures_fit}
-use Rattle.valuation.specs.Limits.{most_energy, most_price, least_factor, most_factor}
-use Rattle.settlement.specs.{declared.agents.Agent.Agent, declared.lines.Line.Line, Agents.agent_at, ContractFaults.parties_of, ContractFaults.in_book, ContractFaults.PartiesKnown, ContractFaults.contract_faults, ContractFaults.contract_fault, ContractFaults.contract_fits, Legs.distributed_at, Legs.distributors_withdrawn, Legs.facts_of, Posting.Posting, Posting.line_at, PostingFaults.withdrawn_together, PostingFaults.PostingFits, Setting.Setting, Setting.hours_in}
-use Rattle.settlement.proofs.{Bounds.within_limits, FaultTables.kept, FaultTables.NoneMet, FaultTables.first_met_none, FaultTables.none_is, Sharing.counted_le}
+use Rattle.valuation.specs.Limits.{most_energy, most_price}
+use Rattle.settlement.{specs.declared.agents.Agent.Agent, specs.declared.lines.Line.Line, specs.Agents.agent_at, specs.ContractFaults.parties_of, specs.ContractFaults.in_book, specs.ContractFaults.PartiesKnown, specs.ContractFaults.contract_faults, specs.ContractFaults.contract_fault, specs.ContractFaults.contract_fits, specs.Legs.distributed_at, specs.Legs.distributors_withdrawn, specs.Legs.facts_of, specs.Posting.Posting, specs.Posting.line_at, specs.PostingFaults.withdrawn_together, specs.PostingFaults.PostingFits, specs.Setting.Setting, specs.Setting.hours_in, proofs.Bounds.within_limits, proofs.FaultTables.kept, proofs.FaultTables.NoneMet, proofs.FaultTables.first_met_none, proofs.FaultTables.none_is, proofs.Sharing.counted_le}
 use Rattle.tally.proofs.Numbers.{sum_to_mono, sum_to_item_le, sum_to_spare}
 
 -- ---- a contract that may stand
@@ -30,9 +28,8 @@ numbers_known agents c held =
 pub fitting : (setting : Setting) (c : Contract) → contract_fits setting c ≡ true → Fitting setting c
 fitting setting c fits =
     let parties = parties_of setting.agents c in
-    let known : Bool = list_all (in_book setting.agents) (party_numbers c) in
     let none : NoneMet (contract_faults setting c) = first_met_none (contract_faults setting c) (none_is (contract_fault setting c) fits) in
-    let between = and_parts known (parties_fit c parties) (kept _ _ none.0) in
+    let between = and_parts _ (parties_fit c parties) (kept _ _ none.0) in
     let others = and_parts (figures_fit c) (setting.form.takes c parties) (kept _ _ none.1.1.0) in
     record {
       known = numbers_known setting.agents c between.0;
@@ -88,13 +85,7 @@ module _ (setting : Setting) (p : Posting) (c : Contract) (long : length p.lines
       let withdrawn = withdrawn_fit (parties_of setting.agents c) (facts_of setting p c)
       (λ is. (distributors_among setting.agents p.lines (c.buyer - 1) buys is, omega (arith, distributors_le setting.agents p.lines, sane.withdrawn_within)))
       (λ other. omega (arith, distributors_apart setting.agents p.lines (c.buyer - 1) buys other, sane.withdrawn_within)) in
-      let prices : prices_fit (facts_of setting p c) ≡ true = simp (
-        le-leb _ _ sane.price_within,
-        le-leb _ _ sold.least_factor,
-        le-leb _ _ sold.most_factor,
-        le-leb _ _ bought.least_factor,
-        le-leb _ _ bought.most_factor,
-      ) in
+      let prices : prices_fit (facts_of setting p c) ≡ true = grind (arith, nat_tests) in
       measured_of _ (facts_of setting p c) prices (le-leb _ _ sold.injected) withdrawn
 
 pub settles : (setting : Setting) (p : Posting) (c : Contract) → setting.days ≤ most_days → length p.lines ≡ length setting.agents → PostingFits p →

@@ -16,9 +16,10 @@ rest_left calls places n is =
     let few : length (take n calls) ≡ min (length calls) (length places) = omega (arith, is, length-take n calls) in
     ap (λ k. drop k places) few ∙ drop_min (length calls) places
 
-pub returns-clause-told : goal.returns-clause-told
-returns-clause-told g c =
+pub returns : goal.returns
+returns g c =
     let form = g.F.ContractForm.meaning c.args.form.now in
+    let f = figures_in c.args.month in
     let k = c.loop-i.invariant in
     let i : ℕ = c.loop-i.i in
     let hears = c.args.hears_contracts in
@@ -27,20 +28,11 @@ returns-clause-told g c =
     let all : length heard ≡ i = omega arith in
     let few = few_heard c.args.calls.now (length c.args.answers.now) c.min.result c.min.ensures in
     let none : drop i heard ≡ [] = drop_of_length-le heard (omega arith) in
-    let f = figures_in c.args.month in
     let told = sym (append-nil (take i c.loop-i.answers)) ∙ ap (λ rest. take i c.loop-i.answers ++ answers_to hears form f (map request_of rest) (kept_in c.loop-i.month c.loop-i.lent)) (sym none) ∙ k.told ∙ ap (λ rs. answers_to hears form f rs before) few in
     let left = ap (λ n. drop n c.loop-i.answers) (sym all) ∙ k.others ∙ rest_left c.args.calls.now c.args.answers.now c.min.result c.min.ensures in
-    sym (take-append-drop i c.loop-i.answers) ∙ (λ t. told t ++ left t)
-
-pub returns-clause-kept : goal.returns-clause-kept
-returns-clause-kept g c =
-    let form = g.F.ContractForm.meaning c.args.form.now in
-    let k = c.loop-i.invariant in
-    let i : ℕ = c.loop-i.i in
-    let hears = c.args.hears_contracts in
-    let before = kept_in c.args.month c.args.lent.now in
-    let heard : List Call = take c.min.result c.args.calls.now in
-    let few = few_heard c.args.calls.now (length c.args.answers.now) c.min.result c.min.ensures in
-    let none : drop i heard ≡ [] = drop_of_length-le heard (omega arith) in
-    let f = figures_in c.args.month in
-    ap (λ rest. kept_after hears form f (map request_of rest) (kept_in c.loop-i.month c.loop-i.lent)) (sym none) ∙ k.kept ∙ ap (λ rs. kept_after hears form f rs before) few
+    record {
+      lent = k.lent;
+      told = sym (take-append-drop i c.loop-i.answers) ∙ (λ t. told t ++ left t);
+      kept = ap (λ rest. kept_after hears form f (map request_of rest) (kept_in c.loop-i.month c.loop-i.lent)) (sym none) ∙ k.kept ∙ ap (λ rs. kept_after hears form f rs before) few;
+      figures = k.figures;
+    }

@@ -1,7 +1,6 @@
 use Rattle.std.proofs.Common.{◌≡◌, ◌-◌, get_or, set, sym, ap, ◌∙◌, arith, w64}
 use Rattle.std.proofs.lemmas.{List.get_or_read, Int.to_z-of_z}
-use Rattle.settlement.specs.Holdings.{no_holding, with_points}
-use Rattle.settlement.proofs.Points.{points_placed}
+use Rattle.settlement.{specs.Holdings.no_holding, specs.Holdings.with_points, proofs.Points.points_placed}
 use Rattle.settlement.proofs.legs.put_leg.Goals as goal
 
 pub returns : goal.returns

@@ -1,10 +1,8 @@
-use Rattle.std.proofs.Common.{◌≡◌, ℕ, ◌+◌, ◌≤◌, cond, eqb, List, get_or, take, ℤ, pos, nat_abs, sym, ap, ◌∙◌, subst, arith, w64, to_z, of_z}
+use Rattle.std.proofs.Common.{ℕ, ◌+◌, ◌≤◌, cond, eqb, List, get_or, take, ℤ, pos, nat_abs, sym, ap, ◌∙◌, arith, w64}
 use Rattle.std.proofs.lemmas.{Int.to_z-of_z, Slice.Zip.get_or-zip}
-use Rattle.tally.specs.Sums.{int_sum_by}
+use Rattle.tally.{specs.Sums.int_sum_by, proofs.Numbers.fits_abs, proofs.Numbers.int_sum_by_more}
 use Rattle.forms.specs.{Limits.most_leg, Parties.party_numbers, Parties.points_of, Parties.legs_by_party}
-use Rattle.settlement.specs.Holdings.{Holding, no_holding, with_points}
-use Rattle.settlement.proofs.Points.{points_none, points_more}
-use Rattle.tally.proofs.Numbers.{fits_abs, int_sum_by_more}
+use Rattle.settlement.{specs.Holdings.Holding, specs.Holdings.no_holding, specs.Holdings.with_points, proofs.Points.points_none, proofs.Points.points_more}
 use Rattle.settlement.proofs.legs.put_legs.Goals as goal
 
 pub loop-number-init : goal.loop-number-init
@@ -28,10 +26,8 @@ loop-number-preserved c i within =
     let leg : ℕ × ℤ = get_or legs k none in
     let at = get_or-zip (party_numbers c.args.contract) (points_of c.args.legs) k none c.loop-number-test.true c.loop-number-test.true in
     let small : nat_abs leg.1 ≤ most_leg = rw at (c.requires.balanced.within k (pos 0) c.loop-number-test.true) in
-    let before : Holding = get_or c.loop-number.fresh i no_holding in
-    c.put_leg.ensures i (omega (arith, c.loop-number.auto.fresh))
-    ∙ ap (λ (ls : List (ℕ × ℤ)). with_points (cond (eqb (get_or ls k none).0 (i + 1)) (to_z w64 (of_z w64 (get_or ls k none).1)) (pos 0)) before) c.legs_by_party.ensures
-    ∙ ap (λ z. with_points (cond (eqb leg.0 (i + 1)) z (pos 0)) before) (to_z-of_z w64 leg.1 (fits_abs leg.1 (omega arith)))
+    let put = c.put_leg.ensures i (omega (arith, c.loop-number.auto.fresh)) in
+    (rw (c.legs_by_party.ensures, to_z-of_z w64 leg.1 (fits_abs leg.1 (omega arith))) at put)
     ∙ ap (with_points (one leg)) (c.loop-number.invariant i within)
     ∙ points_more (int_sum_by one (take k legs)) (one leg) old
     ∙ ap (λ z. with_points z old) (sym (int_sum_by_more one legs k none c.loop-number-test.true))

@@ -1,13 +1,12 @@
-use Rattle.std.proofs.Common.{◌≡◌, ◌<◌, ◌≢◌, length, get_or, pos, ◌-ℤ◌, ap, ◌∙◌, arith, below_more}
+use Rattle.std.proofs.Common.{◌≡◌, ◌<◌, ◌≢◌, length, get_or, pos, ◌-ℤ◌, ◌∙◌, arith, below_more}
 use Rattle.std.proofs.lemmas.List.{FromFn.fill_by_all, get_or_default, get_or-set_same, get_or-set_other}
-use Rattle.settlement.specs.{Holdings.no_holding, Holdings.holding_joined, Holdings.withdrawn_on, Holdings.power_points, Power.power_credit, Power.charged_at}
-use Rattle.settlement.proofs.Powers.{power_part_le, power_part_read}
+use Rattle.settlement.{specs.Holdings.no_holding, specs.Holdings.holding_joined, specs.Holdings.withdrawn_on, specs.Holdings.power_points, specs.Power.power_due, specs.Power.power_weights, specs.Power.charged_at, proofs.Powers.power_part_le, proofs.Sharing.part_read}
 use Rattle.settlement.proofs.power.charge_parts.Goals as goal
 
 pub put_power-requires : goal.put_power-requires
 put_power-requires c =
     let withdrawn = withdrawn_on c.args.accounts.now in
-    let read = power_part_read c.args.agents.now withdrawn c.args.parts.now c.loop-i.i c.requires.shared in
+    let read = part_read (power_due c.args.agents.now) (power_weights c.args.agents.now withdrawn) c.args.parts.now c.loop-i.i c.requires.shared in
     let least = power_part_le c.args.agents.now withdrawn c.loop-i.i c.loop-i-test.true in
     record { credit_within = omega arith; debit_within = omega arith }
 
@@ -19,7 +18,7 @@ loop-i-preserved c =
     let lt : i < length c.loop-i.accounts = omega (arith, c.loop-i.auto.accounts, c.requires.accounts_long, c.loop-i-test.true) in
     let read : get_or c.loop-i.accounts i c.index-accounts-i.result ≡ get_or accounts i no_holding =
     get_or_default c.loop-i.accounts i c.index-accounts-i.result no_holding lt ∙ c.loop-i.invariant.1 i (omega arith) in
-    let part = power_part_read agents (withdrawn_on accounts) c.args.parts.now i c.requires.shared in
+    let part = part_read (power_due agents) (power_weights agents (withdrawn_on accounts)) c.args.parts.now i c.requires.shared in
     let made : c.put_power.new.account ≡ charged_at agents accounts i =
     c.put_power.ensures ∙ (λ t. holding_joined (read t) (power_points (pos (c.power_credit.ensures.value t) -ℤ pos (part t)))) in (
       below_more _ _

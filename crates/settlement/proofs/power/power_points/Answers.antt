@@ -1,7 +1,6 @@
 use Rattle.std.proofs.Common.{refl, ap, ◌∙◌}
 use Rattle.tally.specs.declared.money.MoneyLine.TheVariants.{Power}
-use Rattle.settlement.specs.Holdings.{points_alone}
-use Rattle.settlement.proofs.Differences.{difference}
+use Rattle.settlement.{specs.Holdings.points_alone, proofs.Differences.difference}
 use Rattle.settlement.proofs.power.power_points.Goals as goal
 
 pub returns : goal.returns

@@ -1,7 +1,6 @@
 use Rattle.std.proofs.Common.{ap, ◌∙◌, sym, subst}
 use Rattle.forms.specs.{Meaning.Meaning, Meaning.MayAsk, declared.Contract.Contract, declared.Facts.Facts, declared.Parties.Parties}
-use Rattle.settlement.specs.{Posting.Posting, Posting.posting_of, Setting.Setting, Setting.setting_of}
-use Rattle.settlement.proofs.Settles.{fitting, settles}
+use Rattle.settlement.{specs.Posting.Posting, specs.Posting.posting_of, specs.Setting.Setting, specs.Setting.setting_of, proofs.Settles.fitting, proofs.Settles.settles}
 use Rattle.settlement.proofs.legs.HourSetting.legs_of.Goals as goal
 
 pub new-hour-requires : goal.new-hour-requires

@@ -1,9 +1,7 @@
 use Rattle.std.proofs.Common.{Bool, List, get_or, take, ℤ, None, Option, sym, ap, ◌∙◌, arith}
-use Rattle.tally.specs.Sums.{int_sum_by}
+use Rattle.tally.{specs.Sums.int_sum_by, proofs.Failing.all_each, proofs.Numbers.int_sum_by_more}
 use Rattle.forms.specs.declared.Contract.{Contract}
-use Rattle.settlement.specs.{ContractFaults.place_fits, Holdings.Holding, Holdings.no_holding, Holdings.with_points, Legs.is_number, Legs.given_in, Posting.posting_of, Setting.Setting, Setting.setting_of}
-use Rattle.tally.proofs.{Failing.all_each, Numbers.int_sum_by_more}
-use Rattle.settlement.proofs.Points.{points_none, points_more}
+use Rattle.settlement.{specs.ContractFaults.place_fits, specs.Holdings.no_holding, specs.Holdings.with_points, specs.Legs.is_number, specs.Legs.given_in, specs.Posting.posting_of, specs.Setting.Setting, specs.Setting.setting_of, proofs.Points.points_none, proofs.Points.points_more}
 use Rattle.settlement.proofs.legs.HourSetting.put_contracts.Goals as goal
 
 pub loop-place-init : goal.loop-place-init
@@ -25,8 +23,7 @@ loop-place-preserved g c i within =
     let given : Option Contract → ℤ = given_in (is_number i) setting (posting_of hour.posting) in
     let places : List (Option Contract) = setting.places in
     let k = c.loop-place.place-index in
-    let old : Holding = get_or c.args.fresh.now i no_holding in
     c.put_place.ensures i (omega (arith, c.loop-place.auto.fresh))
     ∙ ap (with_points (given (get_or places k None))) (c.loop-place.invariant i within)
-    ∙ points_more (int_sum_by given (take k places)) (given (get_or places k None)) old
-    ∙ ap (λ z. with_points z old) (sym (int_sum_by_more given places k None c.loop-place-test.true))
+    ∙ rw (int_sum_by_more given places k None c.loop-place-test.true)
+    (points_more (int_sum_by given (take k places)) (given (get_or places k None)) (get_or c.args.fresh.now i no_holding))

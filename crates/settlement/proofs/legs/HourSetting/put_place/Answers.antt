@@ -1,7 +1,6 @@
 use Rattle.std.proofs.Common.{◌≡◌, ℤ, true, false, cond, get_or, pos, Some, Option, sym, ap, ◌∙◌, subst, arith}
 use Rattle.forms.specs.{declared.Contract.Contract, Parties.legs_by_party}
-use Rattle.settlement.specs.{ContractFaults.contract_fits, ContractFaults.place_fits, ContractFaults.covers, Holdings.no_holding, Holdings.with_points, Legs.legs_of, Legs.is_number, Legs.given_to, Legs.given_in, Posting.Posting, Posting.posting_of, Setting.Setting, Setting.setting_of}
-use Rattle.settlement.proofs.{Points.points_none, Settles.fitting}
+use Rattle.settlement.{specs.ContractFaults.contract_fits, specs.ContractFaults.place_fits, specs.ContractFaults.covers, specs.Holdings.no_holding, specs.Holdings.with_points, specs.Legs.legs_of, specs.Legs.is_number, specs.Legs.given_to, specs.Legs.given_in, specs.Posting.Posting, specs.Posting.posting_of, specs.Setting.Setting, specs.Setting.setting_of, proofs.Points.points_none, proofs.Settles.fitting}
 use Rattle.settlement.proofs.legs.HourSetting.put_place.Goals as goal
 
 pub put_legs-requires : goal.put_legs-requires

@@ -1,9 +1,7 @@
 use Rattle.std.proofs.Common.{◌≡◌, ℕ, sum_by, ◌∙◌, arith, rules}
-use Rattle.std.specs.List.{zip}
-use Rattle.std.proofs.lemmas.Iterator.{YieldsList-from_slice, YieldsList-from_zip, YieldsList-from_map, Consumers.sum_by_from_yields_List}
-use Rattle.settlement.specs.{declared.agents.Agent.Agent, declared.lines.Line.Line, Agents.no_agent, Agents.counted, Lines.no_line, Legs.distributors_withdrawn}
+use Rattle.std.{specs.List.zip, proofs.lemmas.Iterator.YieldsList-from_slice, proofs.lemmas.Iterator.YieldsList-from_zip, proofs.lemmas.Iterator.YieldsList-from_map, proofs.lemmas.Iterator.Consumers.sum_by_from_yields_List}
+use Rattle.settlement.{specs.declared.agents.Agent.Agent, specs.declared.lines.Line.Line, specs.Agents.no_agent, specs.Agents.counted, specs.Lines.no_line, proofs.Settles.distributors_le}
 use Rattle.forms.specs.Roles.{distributes}
-use Rattle.settlement.proofs.Settles.{distributors_le}
 use Rattle.tally.proofs.Numbers.{sum_by_zip}
 use Rattle.settlement.proofs.postings.CheckedPosting.distributors_withdrawn.Goals as goal
 

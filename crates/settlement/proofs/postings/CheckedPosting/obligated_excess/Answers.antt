@@ -1,7 +1,6 @@
 use Rattle.std.proofs.Common.{◌≡◌, true, sum_by, ◌∙◌, arith, rules}
 use Rattle.std.proofs.lemmas.Iterator.{YieldsList-from_slice, Adapters.serves_from_places}
-use Rattle.settlement.specs.{Hour.obligated_on, Lines.line_within, Lines.no_line, Posting.Posting, Posting.posting_of}
-use Rattle.settlement.proofs.Bounds.{item_within, obligated_le}
+use Rattle.settlement.{specs.Hour.obligated_on, specs.Lines.line_within, specs.Lines.no_line, specs.Posting.Posting, specs.Posting.posting_of, proofs.Bounds.item_within, proofs.Bounds.obligated_le}
 use Rattle.tally.proofs.Numbers.{sum_by_list}
 use Rattle.settlement.proofs.postings.CheckedPosting.obligated_excess.Goals as goal
 

@@ -1,10 +1,8 @@
 use Rattle.std.proofs.Common.{◌≡◌, ◌+◌, not, List, length, position, sym, ap, ◌∙◌, refl, rules}
 use borrow.Author.Tests.{tests}
-use Rattle.std.specs.Option.{option_map}
-use Rattle.std.proofs.lemmas.Iterator.{YieldsList-from_slice, Search.position_from_yields_List}
-use Rattle.tally.specs.Failing.{first_failing}
+use Rattle.std.{specs.Option.option_map, proofs.lemmas.Iterator.YieldsList-from_slice, proofs.lemmas.Iterator.Search.position_from_yields_List}
+use Rattle.tally.{specs.Failing.first_failing, proofs.Failing.first_is}
 use Rattle.settlement.specs.{declared.faults.LineFault.TheVariants.OutsideLimit, declared.lines.Line.Line, Lines.line_within, Lines.no_line, Posting.line_at}
-use Rattle.tally.proofs.Failing.{first_is}
 use Rattle.settlement.proofs.postings.PostedLines.check_limits.Goals as goal
 
 -- the first line with a figure outside its limit, by its place

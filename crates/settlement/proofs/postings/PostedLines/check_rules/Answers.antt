@@ -1,11 +1,9 @@
 use Rattle.std.proofs.Common.{◌≡◌, ℕ, ◌+◌, Bool, not, List, length, position, sym, ap, ◌∙◌, arith, rules}
 use borrow.Author.Tests.{tests}
-use Rattle.std.specs.{List.zip, Option.option_map}
-use Rattle.std.proofs.lemmas.{Iterator.YieldsList-from_slice, Iterator.YieldsList-from_zip, Iterator.Search.position_from_yields_List, Slice.Zip.length-zip, Slice.Zip.get_or-zip}
-use Rattle.tally.specs.Failing.{first_failing}
+use Rattle.std.{specs.List.zip, specs.Option.option_map, proofs.lemmas.Iterator.YieldsList-from_slice, proofs.lemmas.Iterator.YieldsList-from_zip, proofs.lemmas.Iterator.Search.position_from_yields_List, proofs.lemmas.Slice.Zip.length-zip, proofs.lemmas.Slice.Zip.get_or-zip}
+use Rattle.tally.{specs.Failing.first_failing, proofs.Failing.first_is}
 use Rattle.settlement.specs.{declared.agents.Agent.Agent, declared.faults.LineFault.TheVariants.BreaksRule, declared.lines.Line.Line, Agents.no_agent, Lines.line_kept, Lines.no_line, PostingFaults.kept_at}
 use Rattle.forms.specs.Roles.{role_of}
-use Rattle.tally.proofs.Failing.{first_is}
 use Rattle.settlement.proofs.postings.PostedLines.check_rules.Goals as goal
 
 -- a line of an agent that breaks the rule of its class

@@ -1,9 +1,7 @@
 use Rattle.std.proofs.Common.{◌+◌, ℤ, pos, ◌-ℤ◌, ◌∙◌, arith, rules}
 use lib.IntN.{+ℤ_idl, +ℤ_idr}
-use Rattle.tally.specs.{declared.money.MoneyLine.TheVariants.Market, declared.money.MoneyLine.TheVariants.Overcost, EnergyLaws.energy_same, Lines.no_lines, Lines.alone, Money.money_of, Money.money_joined, MoneyLaws.money_of_joined}
-use Rattle.tally.proofs.PairLaws.{pair_same}
-use Rattle.settlement.specs.Hour.{market_line, excess_on}
-use Rattle.settlement.proofs.Differences.{difference}
+use Rattle.tally.{specs.declared.money.MoneyLine.TheVariants.Market, specs.declared.money.MoneyLine.TheVariants.Overcost, specs.EnergyLaws.energy_same, specs.Lines.no_lines, specs.Lines.alone, specs.Money.money_of, specs.Money.money_joined, specs.MoneyLaws.money_of_joined, proofs.PairLaws.pair_same}
+use Rattle.settlement.{specs.Hour.market_line, specs.Hour.excess_on, proofs.Differences.difference}
 use Rattle.settlement.proofs.priced.PricedLine.entry.Goals as goal
 
 pub returns : goal.returns

@@ -1,6 +1,5 @@
 use Rattle.std.proofs.Common.{length, sym}
-use Rattle.settlement.specs.Posting.{Posting, posting_of}
-use Rattle.settlement.proofs.Checked.{head_long, posting_fits}
+use Rattle.settlement.{specs.Posting.Posting, specs.Posting.posting_of, proofs.Checked.head_long, proofs.Checked.posting_fits}
 use Rattle.settlement.proofs.settings.Setting.check_posting.Goals as goal
 
 pub invariant_of-result : goal.invariant_of-result

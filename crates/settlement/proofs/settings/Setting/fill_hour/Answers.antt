@@ -1,8 +1,6 @@
-use Rattle.std.proofs.Common.{◌≡◌, ℕ, List, map, length, get_or, ap, ◌∙◌, subst, arith}
-use Rattle.std.specs.List.{range_with_len}
-use Rattle.std.proofs.lemmas.List.FromFn.{fill_by_all, get_or-map-range_with_len}
-use Rattle.settlement.specs.{declared.agents.Agent.Agent, Holdings.Holding, Holdings.no_holding, Holdings.with_points, Holdings.entry_of, Hour.own_of, Legs.contract_line, Legs.hour_of, Posting.Posting, Posting.posting_of, Setting.Setting, Setting.setting_of}
-use Rattle.settlement.proofs.Points.{points_entry}
+use Rattle.std.proofs.Common.{◌≡◌, ℕ, map, length, get_or, ap, ◌∙◌, arith}
+use Rattle.std.{specs.List.range_with_len, proofs.lemmas.List.FromFn.fill_by_all, proofs.lemmas.List.FromFn.get_or-map-range_with_len}
+use Rattle.settlement.{specs.Holdings.Holding, specs.Holdings.no_holding, specs.Holdings.with_points, specs.Holdings.entry_of, specs.Hour.own_of, specs.Legs.contract_line, specs.Legs.hour_of, specs.Posting.Posting, specs.Posting.posting_of, specs.Setting.Setting, specs.Setting.setting_of, proofs.Points.points_entry}
 use Rattle.settlement.proofs.settings.Setting.fill_hour.Goals as goal
 
 pub returns : goal.returns
