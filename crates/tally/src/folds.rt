@@ -1,6 +1,6 @@
 //! One fold and one update for every tally.
 ghost use Rattle.std.specs.Prelude.{◌≡◌};
-ghost use Rattle.tally.specs.Total.{total, StaysTotal, JoinsDays};
+ghost use Rattle.tally.specs.Total.{total, day_in, StaysTotal, JoinsDays};
 
 use crate::traits::{Reversible, Tally};
 
@@ -20,6 +20,16 @@ pub fn update<T: Tally + Reversible + Copy>(account: T, old: T, new: T) -> T
     ensures keeps { StaysTotal T.nothing T.joined account old new result }
 {
     account.join(old.opposite()).join(new)
+}
+
+/// All of a day together, counted from 0: the twenty-four items from its first hour on, or as many as there are.
+pub fn fold_day<T: Tally + Copy>(month: &[T], day: usize) -> T
+    ensures { result ≡ total T.nothing T.joined (day_in day month.now) }
+{
+    match month.chunks(HOURS).nth(day) {
+        Some(hours) => fold(hours),
+        None => T::neutral(),
+    }
 }
 
 /// All of a month together, day by day: the joined days are the joined month.

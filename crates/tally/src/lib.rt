@@ -11,7 +11,7 @@ pub mod peak;
 pub mod traits;
 
 pub use energy::Energy;
-pub use folds::{fold, fold_days, update};
+pub use folds::{fold, fold_day, fold_days, update};
 pub use money::{Money, MoneyLine};
 pub use pair::Pair;
 pub use peak::Peak;

@@ -1,4 +1,6 @@
-use crate::{Energy, Money, MoneyLine, Pair, Peak, Reversible, Tally, fold, fold_days, update};
+use crate::{
+    Energy, Money, MoneyLine, Pair, Peak, Reversible, Tally, fold, fold_day, fold_days, update,
+};
 
 fn money(market: i64, contract: i64, overcost: i64, power: i64) -> Money {
     Money {
@@ -137,9 +139,13 @@ fn days_fold(rt: HostRuntime) {
     ];
     for (count, all, third) in cases {
         assert!(rt; count <= 50);
-        assert_eq!(rt; fold_days(&hours[0..count]), all);
+        let month = &hours[0..count];
+        assert_eq!(rt; fold_days(month), all);
+        assert_eq!(rt; fold_day(month, 2), third);
+        assert_eq!(rt; fold_day(month, usize::MAX), energy(0, 0));
         assert_eq!(rt; fold(&hours[count.min(48)..count]), third);
     }
+    assert_eq!(rt; fold_day(&hours, 1), energy(24, 48));
     assert_eq!(rt; fold(&hours[24..48]), energy(24, 48));
 }
 
