@@ -4,7 +4,7 @@ use Rattle.std.proofs.Math.Nat.{div-le_of_le-mul}
 use Rattle.std.proofs.lemmas.{Bool.cond_both, Bool.Decides.nat_tests, Int.ints, List.Elements.All-nil, List.Elements.All-cons}
 use Rattle.std.proofs.Common.{mul_comm, mul-le-mul_left, arith}
 use Rattle.calendar.specs.declared.bands.Band.{Band, TheVariants.Peak, TheVariants.Medium, TheVariants.Base}
-use Rattle.forms.specs.{Kinds.quantity_in, Kinds.block, Kinds.share_takes, Kinds.shared_energy, Kinds.share, Known.figures_known, Known.contract_price_le, Known.prices_known, Known.price_le, Known.injected_le, Known.withdrawn_among, Layers.Rule, Layers.NeverRaises, Layers.less_margin, Layers.up_to_capacity, Layers.layered, Layers.by_kind, Layers.capped, Layers.lowered, Layers.product_meaning, Limits.most_leg, Market.factor_at, Market.value_of, Market.cost_of, Market.market_legs, Meaning.Meaning, Meaning.Askable, Meaning.Balanced, Meaning.Keeps, Measured.prices_fit, Measured.Measured, Terms.figures_fit, declared.Contract.Contract, declared.Delivery.Delivery, declared.Delivery.TheVariants.MarketBar, declared.Delivery.TheVariants.SellerNode, declared.Delivery.TheVariants.BuyerNode, declared.Facts.Facts, declared.Legs.Legs, declared.Parties.Parties}
+use Rattle.forms.specs.{Kinds.quantity_in, Kinds.block, Kinds.share_takes, Kinds.shared_energy, Kinds.share, Known.figures_known, Known.contract_price_le, Known.prices_known, Known.price_le, Known.injected_le, Known.withdrawn_among, Layers.Rule, Layers.NeverRaises, Layers.less_margin, Layers.up_to_capacity, Layers.layered, Layers.by_kind, Layers.capped, Layers.lowered, Layers.product_meaning, Limits.most_leg, Market.factor_at, Market.value_of, Market.cost_of, Market.market_legs, Meaning.Meaning, Meaning.Askable, Meaning.Balanced, Meaning.Keeps, Measured.prices_fit, Measured.Measured, Roles.distributes, Roles.has_role, Terms.figures_fit, declared.Contract.Contract, declared.Delivery.Delivery, declared.Delivery.TheVariants.MarketBar, declared.Delivery.TheVariants.SellerNode, declared.Delivery.TheVariants.BuyerNode, declared.Facts.Facts, declared.Legs.Legs, declared.Parties.Parties}
 use Rattle.valuation.proofs.Amounts.{amount_of_le, cost_amount_of_le}
 use Rattle.valuation.specs.Limits.{most_energy, most_factor, most_amount, most_cost_amount}
 
@@ -16,13 +16,18 @@ quantity_in_le Peak terms figures = grind (arith, nat_tests)
 quantity_in_le Medium terms figures = grind (arith, nat_tests)
 quantity_in_le Base terms figures = grind (arith, nat_tests)
 
--- a share's buyer is a distributor, whose withdrawn energy is among that of all distributors
+-- a share's buyer is a distributor
+pub share_buyer : (terms : Contract) (parties : Parties) → IsTrue (share_takes terms parties) →
+    IsTrue (has_role distributes parties.buyer.role)
+share_buyer terms parties taken = grind (arith, nat_tests)
+
+-- and its withdrawn energy is among that of all distributors
 pub share_among : (terms : Contract) (parties : Parties) (facts : Facts) → IsTrue (share_takes terms parties) →
     Measured parties facts → facts.withdrawn ≤ facts.distributors_withdrawn
 share_among terms parties facts taken measured = withdrawn_among parties facts measured (grind (arith, nat_tests))
 
 -- a share of the injected energy is at most all of it
-share_le : (injected withdrawn all : ℕ) → withdrawn ≤ all → injected * withdrawn / all ≤ injected
+pub share_le : (injected withdrawn all : ℕ) → withdrawn ≤ all → injected * withdrawn / all ≤ injected
 share_le injected withdrawn all among =
     div-le_of_le-mul all (omega (arith, mul-le-mul_left injected among, mul_comm injected all))
 
@@ -105,10 +110,10 @@ by_kind_keeps kind first second = record {
 }
 
 -- the product
-capped_keeps : {form : Meaning} → Keeps form → Keeps (capped form)
+pub capped_keeps : {form : Meaning} → Keeps form → Keeps (capped form)
 capped_keeps keeps = layered_keeps {rule = up_to_capacity} (λ terms parties quantity. omega arith) keeps
 
-lowered_keeps : {form : Meaning} → Keeps form → Keeps (lowered form)
+pub lowered_keeps : {form : Meaning} → Keeps form → Keeps (lowered form)
 lowered_keeps keeps = layered_keeps {rule = less_margin} (λ terms parties quantity. omega arith) keeps
 
 pub product_keeps : Keeps product_meaning
