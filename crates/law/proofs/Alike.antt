@@ -1,7 +1,8 @@
 -- Two forms of the same meaning give the same answers, whole, and leave the same standing. Assumes nothing.
 use Rattle.std.specs.List.{list_all}
-use Rattle.std.proofs.Common.{◌≡◌, ℕ, ◌-◌, Bool, true, false, cond, not, ◌&&◌, List, [], ◌∷◌, Option, sym, refl, ap, ◌∙◌}
+use Rattle.std.proofs.Common.{◌≡◌, ℕ, ◌-◌, min, Bool, true, false, cond, not, ◌&&◌, List, [], ◌∷◌, Option, sym, refl, ap, ◌∙◌}
 use Rattle.std.proofs.lemmas.{Bool.and_parts, List.Sorted.IsPermutation-refl}
+use Rattle.calendar.specs.Limits.{most_hours}
 use Rattle.tally.proofs.{Numbers.map_counting_same, Numbers.int_lawful, Sums.total_over_same}
 use Rattle.forms.specs.{declared.Contract.Contract, declared.Parties.Parties, Meaning.Meaning, Meaning.Keeps, Meaning.Alike, Terms.number_fits, Terms.numbers_apart, Terms.party_fits, Terms.parties_fit, Terms.figures_fit, Terms.hours_fit, Parties.party_numbers, Parties.members_of}
 use Rattle.settlement.specs.{declared.faults.BookFault.BookFault, declared.faults.BookFault.TheVariants.ContractTerms, ContractFaults.parties_of, ContractFaults.in_book, ContractFaults.taken_fault, ContractFaults.covered_fault, ContractFaults.contract_fault, Faults.met_if, Faults.first_met}
@@ -18,7 +19,7 @@ module _ (form : Meaning) (keeps : Keeps form) (o : Opening) (opened : Opened o)
 
       fault : (between taken : Bool) → Option BookFault
       fault between taken =
-          first_met (met_if (not between) ContractTerms ∷ met_if (not (hours_fit (hours_in o) c)) ContractTerms ∷ met_if (not (figures_fit c && taken)) ContractTerms ∷ [])
+          first_met (met_if (not between) ContractTerms ∷ met_if (not (hours_fit (min (hours_in o) most_hours) c)) ContractTerms ∷ met_if (not (figures_fit c && taken)) ContractTerms ∷ [])
 
       by : (between : Bool) → (list_all (in_book o.agents) (party_numbers c) && parties_fit c parties) ≡ between →
           fault between (same.takes c parties) ≡ fault between (form.takes c parties)

@@ -33,7 +33,7 @@ module _ (form : Meaning) (keeps : Keeps form) (o : Opening) (opened : Opened o)
   hour_together =
       at_standing form o opened s sound (λ hour q. lines_over 0 (count_in o) (λ i. (figures_from (setting_in form o s) i q).lines) ≡ alone Market (neg_ℤ (residue_from q)))
       (λ hour. total_over_none lines_lawful 0 (count_in o) (λ i. no_lines) (λ i low below. refl))
-      (λ p sane. even_lines (setting_in form o s) p (even (setting_in form o s) p keeps opened.few_days sound.contracts sane))
+      (λ p sane. even_lines (setting_in form o s) p (even (setting_in form o s) p keeps sound.contracts sane))
 
   -- what a range of hours does
   pub between_together : (start n : ℕ) → start + n ≤ hours_in o → lines_over 0 (count_in o) (lines_between form o s start n) ≡ alone Market (neg_ℤ (residue_between s start n))

@@ -1,15 +1,13 @@
 -- Nothing that is worked from what stands is too large for memory. Assumes nothing.
-use Rattle.std.proofs.Common.{◌≡◌, ℕ, ◌*◌, ◌<◌, ◌≤◌, ℤ, pos, nat_abs, Some, None, Option, refl, ◌∙◌, subst, arith}
+use Rattle.std.proofs.Common.{◌≡◌, ℕ, ◌<◌, ◌≤◌, nat_abs, Some, None, Option, refl, subst, arith, w64, SFits}
 use Rattle.std.proofs.lemmas.Int.{ints}
-use Rattle.tally.specs.{declared.money.MoneyLine.MoneyLine, declared.money.MoneyLine.TheVariants.Market, declared.money.MoneyLine.TheVariants.Contract as Contracted, declared.money.MoneyLine.TheVariants.Overcost, declared.money.MoneyLine.TheVariants.Power, Lines.LinesWithin, Lines.line_on, Lines.no_lines, Sums.sum_to}
-use Rattle.tally.proofs.{Numbers.int_lawful, Numbers.nat_lawful, Numbers.nat_sum_over_le, Sums.total_over_none, Sums.total_over_swapped, Lines.lines_over_within, Lines.line_on-over, Lines.balance_of_within}
+use Rattle.tally.specs.{declared.money.MoneyLine.TheVariants.Market, declared.money.MoneyLine.TheVariants.Contract as Contracted, declared.money.MoneyLine.TheVariants.Overcost, declared.money.MoneyLine.TheVariants.Power, Lines.LinesFit, Lines.LinesWithin, Sums.sum_to}
+use Rattle.tally.proofs.{Numbers.fits_abs, Numbers.nat_lawful, Numbers.nat_sum_over_le, Sums.total_over_none, Sums.total_over_swapped, Lines.lines_fit, Lines.balance_of_within}
 use Rattle.valuation.specs.Limits.{most_energy}
-use Rattle.valuation.proofs.Amounts.{amount_of_le}
-use Rattle.forms.specs.{Meaning.Meaning, Meaning.Keeps, Limits.most_leg, Limits.most_agents}
-use Rattle.settlement.specs.{declared.states.State.State, declared.states.State.TheVariants.Open, declared.states.State.TheVariants.Closed, Posting.line_at, Posting.Posting, Limits.most_month_energy, Limits.points_per_kw, Limits.most_power, Power.power_line, Setting.Setting, Legs.hour_of, Legs.contract_line}
-use Rattle.settlement.proofs.{Bounds.Within, Bounds.excess_le, Bounds.caused_le, Bounds.carried_le, Checked.Checked, ContractLines.contract_line_abs}
-use Rattle.law.specs.{Requests.Opening, Requests.count_in, Requests.hours_in, Standing.Standing, Standing.setting_in, Faults.withdrawn_in, Faults.withdrawn_of, Limits.most_line_of_an_hour, Limits.most_line_of_a_month, Limits.most_balance, Worked.figures_from, Worked.figures_at, Worked.lines_between, Worked.power_in, Worked.power_of, Worked.agent_lines, Worked.agent_balance, Worked.injected_in, Worked.injected_of}
-use Rattle.law.proofs.{Accepted.line_within_at, Accepted.at_standing, Power.power_line_le, Sound.Opened, Sound.Sound}
+use Rattle.forms.specs.Meaning.{Meaning, Keeps}
+use Rattle.settlement.specs.{Posting.line_at, Posting.Posting, Limits.most_month_energy, Setting.Setting}
+use Rattle.law.specs.{Requests.Opening, Requests.count_in, Requests.hours_in, Standing.Standing, Standing.setting_in, Faults.withdrawn_in, Faults.withdrawn_of, Limits.most_line_of_an_hour, Limits.most_line_of_a_month, Limits.most_balance, Worked.figures_from, Worked.figures_at, Worked.agent_lines, Worked.agent_balance, Worked.injected_in, Worked.injected_of}
+use Rattle.law.proofs.{Accepted.line_within_at, Accepted.at_standing, LineBounds.market_at_abs, LineBounds.overcost_at_abs, LineBounds.contract_at_abs, LineBounds.power_at_none, LineBounds.market_abs, LineBounds.overcost_abs, LineBounds.contract_abs, LineBounds.power_abs, Sound.Opened, Sound.Sound}
 
 -- ---- the energies of an hour
 
@@ -58,64 +56,28 @@ module _ (form : Meaning) (keeps : Keeps form) (o : Opening) (opened : Opened o)
 
   -- ---- the lines
 
-  -- each line that an accepted posting gives
-  posting_within : (i : ℕ) → i < count_in o → (p : Posting) → Checked (setting_in form o s) p → LinesWithin most_line_of_an_hour (hour_of (setting_in form o s) p i).lines
-  posting_within i below p sane Market =
-      let l : Within (line_at p.lines i) = line_within_at (setting_in form o s) p sane i below in
-      omega (
-        arith,
-        ints,
-        amount_of_le (line_at p.lines i).injected (line_at p.lines i).factor p.price l.injected l.most_factor sane.fits.price_within,
-        amount_of_le (line_at p.lines i).withdrawn (line_at p.lines i).factor p.price l.withdrawn l.most_factor sane.fits.price_within,
-      )
-  posting_within i below p sane Contracted =
-      subst (λ n. nat_abs (contract_line (setting_in form o s) p i) ≤ n * most_leg) sound.long
-      (contract_line_abs (setting_in form o s) keeps opened.few_days p sane.long sane.fits sound.contracts i)
-  posting_within i below p sane Overcost =
-      omega (
-        arith,
-        ints,
-        excess_le p.price (line_at p.lines i) (line_within_at (setting_in form o s) p sane i below),
-        caused_le p sane.fits i,
-        carried_le p sane.fits o.agents i (omega (arith, sane.long)),
-      )
-  posting_within i below p sane Power = omega arith
-
   -- each line of an hour
   pub hour_within : (i hour : ℕ) → i < count_in o → hour < hours_in o → LinesWithin most_line_of_an_hour (figures_at form o s i hour).lines
-  hour_within i hour below within =
-      at_standing form o opened s sound (λ h q. LinesWithin most_line_of_an_hour (figures_from (setting_in form o s) i q).lines) (λ h. none) (posting_within i below) hour within
-    where
-      none : (line : MoneyLine) → nat_abs (line_on line no_lines) ≤ most_line_of_an_hour
-      none Market = omega arith
-      none line = omega arith
-
-  -- no hour gives anything on the power line
-  no_power : (i start n : ℕ) → (lines_between form o s start n i).power ≡ pos 0
-  no_power i start n =
-      line_on-over Power start n _
-      ∙ total_over_none int_lawful start n (λ hour. (figures_at form o s i hour).lines.power) (λ hour low within. none (s.posted hour))
-    where
-      none : (q : Option Posting) → (figures_from (setting_in form o s) i q).lines.power ≡ pos 0
-      none None = refl
-      none (Some p) = refl
-
-  -- the power line of a month
-  power_abs : (i : ℕ) → i < count_in o → nat_abs (power_of o s i) ≤ most_line_of_a_month
-  power_abs i below = by s.state (power_line o.agents (withdrawn_of o s) i) (power_line_le o.agents opened.few_agents opened.agents (withdrawn_of o s) i below)
-    where
-      by : (state : State) (points : ℤ) → nat_abs points ≤ most_agents * (points_per_kw * most_power) → nat_abs (power_in state points) ≤ most_line_of_a_month
-      by Open points few = omega arith
-      by Closed points few = omega arith
+  hour_within i hour below within Market = omega (arith, market_at_abs form o opened s sound i hour below within)
+  hour_within i hour below within Contracted = contract_at_abs form o opened s sound keeps i hour within
+  hour_within i hour below within Overcost = omega (arith, overcost_at_abs form o opened s sound i hour below within)
+  hour_within i hour below within Power = omega (arith, ints, power_at_none form o opened s sound i hour)
 
   -- so each line of a month
   pub lines_within : (i : ℕ) → i < count_in o → LinesWithin most_line_of_a_month (agent_lines form o s i)
-  lines_within i below Power = omega (arith, ints, no_power i 0 (hours_in o), power_abs i below)
-  lines_within i below line =
-      let hours : LinesWithin (hours_in o * most_line_of_an_hour) (lines_between form o s 0 (hours_in o) i) =
-      lines_over_within 0 (hours_in o) (λ hour. (figures_at form o s i hour).lines) most_line_of_an_hour (λ hour low within. hour_within i hour below (omega arith)) in
-      omega (arith, ints, hours line, opened.few_days)
+  lines_within i below Market = omega (arith, market_abs form o opened s sound i below)
+  lines_within i below Contracted = contract_abs form o opened s sound keeps i
+  lines_within i below Overcost = omega (arith, overcost_abs form o opened s sound i below)
+  lines_within i below Power = omega (arith, power_abs form o opened s sound i below)
 
   -- and the balance
   pub balance_abs : (i : ℕ) → i < count_in o → nat_abs (agent_balance form o s i) ≤ most_balance
   balance_abs i below = balance_of_within most_line_of_a_month (agent_lines form o s i) (lines_within i below)
+
+  -- they fit 64 bits: each line
+  pub agent_lines_fit : (i : ℕ) → i < count_in o → LinesFit (agent_lines form o s i)
+  agent_lines_fit i below = lines_fit most_line_of_a_month (agent_lines form o s i) (lines_within i below) (omega arith)
+
+  -- and the balance
+  pub agent_balance_fits : (i : ℕ) → i < count_in o → SFits w64 (agent_balance form o s i)
+  agent_balance_fits i below = fits_abs (agent_balance form o s i) (omega (arith, balance_abs i below))

@@ -1,8 +1,7 @@
 -- Where the same contracts stand, under whatever numbers, they give the same, by a form that is alike. Assumes nothing.
 use Rattle.std.specs.List.{list_all, Sorted.IsPermutation}
-use Rattle.std.proofs.Common.{◌≡◌, ℕ, ◌≤◌, Bool, true, List, [], ◌∷◌, ℤ, pos, ◌+ℤ◌, Some, None, Option, sym, refl, ap, ◌∙◌, arith}
+use Rattle.std.proofs.Common.{◌≡◌, ℕ, Bool, true, List, [], ◌∷◌, ℤ, pos, ◌+ℤ◌, Some, None, Option, sym, refl, ap, ◌∙◌, arith}
 use Rattle.std.proofs.lemmas.Int.{ints}
-use Rattle.calendar.specs.Limits.{most_days}
 use Rattle.tally.specs.Sums.{int_sum_by}
 use Rattle.tally.proofs.Numbers.{int_sum_by-IsPermutation}
 use Rattle.forms.specs.{declared.Contract.Contract, Meaning.Meaning, Meaning.Keeps, Meaning.Alike}
@@ -25,10 +24,10 @@ module _ (f : Option Contract → ℤ) (none : f None ≡ pos 0) where
       ∙ sym (sum_of_standing others)
 
 -- the contract lines of some agents, in an hour whose posting met no fault
-pub contract_points_level : (setting : Setting) → Keeps setting.form → setting.days ≤ most_days → (p : Posting) → Checked setting p →
+pub contract_points_level : (setting : Setting) → Keeps setting.form → (p : Posting) → Checked setting p →
     list_all (place_fits setting) setting.places ≡ true → (same : Meaning) → Alike setting.form same → (others : List (Option Contract)) →
     IsPermutation (standing_contracts setting.places) (standing_contracts others) → (member : ℕ → Bool) →
     contract_points_of member setting p ≡ contract_points_of member (record setting { form = same; places = others }) p
-contract_points_level setting keeps few p sane fit same alike others level member =
-    contract_points_alike setting keeps few p sane.long sane.fits fit same alike member
+contract_points_level setting keeps p sane fit same alike others level member =
+    contract_points_alike setting keeps p sane.long sane.fits fit same alike member
     ∙ sum_of_level (given_in member (record setting { form = same }) p) refl setting.places others level

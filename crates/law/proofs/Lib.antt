@@ -11,6 +11,7 @@ pub mod Again
 pub mod Balance
 pub mod Legs
 pub mod Order
+pub mod LineBounds
 pub mod Bounds
 pub mod Alike
 pub mod Lawful

@@ -15,7 +15,7 @@ module _ (form : Meaning) (keeps : Keeps form) (o : Opening) (opened : Opened o)
       ∙ at_standing form o opened s sound (λ h q. figures_from (setting_in same o t) i q ≡ figures_from (setting_in form o s) i q) (λ h. refl)
       (λ p sane.
       ap (λ contract. figures_with p.price (line_at p.lines i) contract (caused_sum p i) (carried_by o.agents p i))
-      (sym (contract_points_level (setting_in form o s) keeps opened.few_days p sane sound.contracts same alike t.places level.contracts (is_number i))))
+      (sym (contract_points_level (setting_in form o s) keeps p sane sound.contracts same alike t.places level.contracts (is_number i))))
       hour within
 
   -- and equal power lines, and so equal statements

@@ -29,8 +29,12 @@ module _ (agents : List Agent) (few : length agents ≤ most_agents) (fit : list
   credit_le : (i : ℕ) → i < length agents → power_credit agents i ≤ points_per_kw * most_power
   credit_le i below = omega (arith, power_within (agent_at agents i) (all_each agent_fits agents i no_agent fit below))
 
+  -- what all agents are credited
+  pub due_le : power_due agents ≤ most_agents * (points_per_kw * most_power)
+  due_le =
+      let due : power_due agents ≤ length agents * (points_per_kw * most_power) = sum_to_le (length agents) (power_credit agents) (points_per_kw * most_power) credit_le in
+      omega (arith, few)
+
   -- a power line
   pub power_line_le : (withdrawn : ℕ → ℕ) (i : ℕ) → i < length agents → nat_abs (power_line agents withdrawn i) ≤ most_agents * (points_per_kw * most_power)
-  power_line_le withdrawn i below =
-      let due : power_due agents ≤ length agents * (points_per_kw * most_power) = sum_to_le (length agents) (power_credit agents) (points_per_kw * most_power) credit_le in
-      omega (arith, ints, credit_le i below, power_part_le agents withdrawn i below)
+  power_line_le withdrawn i below = omega (arith, ints, credit_le i below, due_le, power_part_le agents withdrawn i below)

@@ -43,6 +43,10 @@ module _ (setting : Setting) (p : Posting) (faultless : posting_fault setting p 
   pub hour_within : p.hour < hours_in setting
   hour_within = leb-false (hours_in setting) p.hour (unmet _ _ (sym own_none.0))
 
+  -- all its injected energy is within the limit of an hour, as all its withdrawn energy is
+  pub injected_within : injected_together p.lines ≤ most_energy
+  injected_within = ltb-false most_energy (injected_together p.lines) (or_parts _ _ (unmet _ _ (sym own_none.1.1.1.1.0))).0
+
   pub checked : length setting.agents ≤ most_agents → Checked setting p
   checked few =
       let head = sym own_none.1.0 in

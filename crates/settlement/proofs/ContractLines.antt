@@ -1,7 +1,6 @@
 -- The legs of contracts that may stand: their size, what they add up to, and that forms that are alike give the same. Assumes nothing.
 use Rattle.std.proofs.Common.{◌≡◌, ℕ, ◌+◌, ◌-◌, ◌*◌, ◌<◌, ◌≤◌, Bool, true, false, not, cond, eqb, List, [], ◌∷◌, map, length, get_or, ℤ, pos, ◌+ℤ◌, nat_abs, Some, None, Option, sym, refl, ap, ◌∙◌, subst, inl, inr, arith}
 use Rattle.std.{specs.List.All, specs.List.list_all, proofs.lemmas.Int.ints, proofs.lemmas.Bool.and_parts, proofs.lemmas.Bool.not-true, proofs.lemmas.Bool.eqb-false, proofs.lemmas.Bool.cases_eq, proofs.lemmas.Bool.cond-true, proofs.lemmas.Bool.cond-false, proofs.lemmas.Bool.cond_both, proofs.lemmas.Bool.eq-eqb, proofs.lemmas.Bool.ne_eqb, proofs.lemmas.List.Elements.All-head, proofs.lemmas.List.Elements.All-tail, proofs.lemmas.Slice.Zip.get_or-zip}
-use Rattle.calendar.specs.Limits.{most_days}
 use Rattle.tally.{specs.Lawful.Lawful, specs.Sums.sum_to_ℤ, specs.Total.total_over, proofs.Numbers.int_lawful, proofs.Numbers.sum_to_ℤ_const_zero, proofs.Numbers.sum_to_ℤ_add, proofs.Numbers.int_sum_by_same, proofs.Numbers.int_sum_by_zero, proofs.Numbers.int_sum_by_abs, proofs.Numbers.int_sum_over_by, proofs.Sums.All-passing, proofs.Sums.total_over_changed, proofs.Sums.total_over_none, proofs.Totals.right_identity}
 use Rattle.forms.specs.{declared.Contract.Contract, declared.Legs.Legs, Limits.most_leg, Meaning.Meaning, Meaning.MayAsk, Meaning.Balanced, Meaning.Keeps, Meaning.Alike, Parties.party_numbers, Parties.points_of, Parties.points_together, Parties.legs_by_party, Terms.numbers_apart}
 use Rattle.settlement.{specs.ContractFaults.parties_of, specs.ContractFaults.PartiesKnown, specs.ContractFaults.contract_fits, specs.ContractFaults.place_fits, specs.ContractFaults.covers, specs.Legs.facts_of, specs.Legs.legs_of, specs.Legs.is_number, specs.Legs.given_to, specs.Legs.given_in, specs.Legs.contract_points_of, specs.Legs.contract_line, specs.Posting.Posting, specs.PostingFaults.PostingFits, specs.Setting.Setting, proofs.Settles.fitting, proofs.Settles.settles}
@@ -73,10 +72,10 @@ module _ (c : Contract) (legs : Legs) (balanced : Balanced legs) where
 
 -- ---- an hour
 
-module _ (setting : Setting) (keeps : Keeps setting.form) (few : setting.days ≤ most_days) (p : Posting) (long : length p.lines ≡ length setting.agents) (sane : PostingFits p) where
+module _ (setting : Setting) (keeps : Keeps setting.form) (p : Posting) (long : length p.lines ≡ length setting.agents) (sane : PostingFits p) where
   -- the form may be asked for each of the contracts
   asked : (c : Contract) → contract_fits setting c ≡ true → MayAsk setting.form c (parties_of setting.agents c) (facts_of setting p c)
-  asked c = settles setting p c few long sane
+  asked c = settles setting p c long sane
 
   -- the legs of a contract are within their limits, and cancel
   legs_balanced : (c : Contract) → contract_fits setting c ≡ true → Balanced (legs_of setting p c)

@@ -1,10 +1,9 @@
 -- What an hour gives all agents together: it comes out even. Assumes nothing.
-use Rattle.std.proofs.Common.{◌≡◌, ℕ, ◌+◌, ◌-◌, ◌<◌, ◌≤◌, Bool, true, false, cond, ◌&&◌, eqb, ltb, leb, List, length, pos, neg_ℤ, Some, sum, Option, sym, refl, ◌∙◌, subst, inl, inr, eq-zero-or-pos, arith}
+use Rattle.std.proofs.Common.{◌≡◌, ℕ, ◌+◌, ◌<◌, ◌≤◌, Bool, true, false, cond, ◌&&◌, eqb, ltb, leb, List, length, pos, neg_ℤ, Some, sum, Option, sym, refl, ◌∙◌, subst, inl, inr, eq-zero-or-pos, arith}
 use Rattle.std.{specs.List.list_all, proofs.lemmas.List.FromFn.length-map-range_with_len, proofs.lemmas.Int.ints, proofs.lemmas.Bool.false≢true, proofs.lemmas.Bool.and_parts, proofs.lemmas.Bool.leb-true, proofs.lemmas.Bool.Decides.nat_tests}
 use Rattle.valuation.{specs.Sharing.part_of, proofs.Sharing.sum-parts_of, proofs.Sharing.part_of_no_points}
 use Rattle.settlement.{specs.declared.agents.Agent.Agent, specs.declared.lines.Class.Class, specs.declared.lines.Class.TheVariants.Obligated, specs.declared.lines.Class.TheVariants.Forced, specs.declared.lines.Line.Line, specs.Agents.role_at, specs.Hour.injected_amount, specs.Hour.withdrawn_amount, specs.Hour.market_line, specs.Hour.excess_in, specs.Hour.excess_on, specs.Hour.is_obligated, specs.Hour.is_forced, specs.Hour.obligated_on, specs.Hour.obligated_sum, specs.Hour.caused_on, specs.Hour.caused_sum, specs.Hour.weight_at, specs.Hour.weights_of, specs.Hour.carried_by, specs.Hour.overcost_line, specs.Hour.residue_of, specs.Lines.class_of, specs.Lines.must_run, specs.Lines.class_kept, specs.Posting.Posting, specs.Posting.line_at, specs.PostingFaults.kept_at, specs.PostingFaults.uncarried, specs.ContractFaults.place_fits, specs.Legs.hour_of, specs.Setting.Setting, specs.Setting.count_in, proofs.Checked.Checked, proofs.ContractLines.once, proofs.ContractLines.contract_lines_together}
 use Rattle.forms.specs.{declared.roles.Role.Role, Meaning.Keeps}
-use Rattle.calendar.specs.Limits.{most_days}
 use Rattle.tally.{specs.declared.money.MoneyLine.TheVariants.Market, specs.declared.money.MoneyLine.TheVariants.Contract, specs.declared.money.MoneyLine.TheVariants.Overcost, specs.declared.money.MoneyLine.TheVariants.Power, specs.Lines.Lines, specs.Lines.no_lines, specs.Sums.sum_to, specs.Sums.sum_to_ℤ, specs.Sums.lines_over, proofs.Lines.line_on-over, proofs.Numbers.nat_lawful, proofs.Numbers.sum_to_same, proofs.Numbers.sum_to_const_zero, proofs.Numbers.sum_to_zero, proofs.Numbers.sum_to_add, proofs.Numbers.sum_to_swap, proofs.Numbers.sum_to_ℤ_const_zero, proofs.Numbers.sum_to_ℤ_less, proofs.Numbers.sum_counting}
 
 -- ---- the excess of a line
@@ -81,10 +80,10 @@ pub record Even (setting : Setting) (p : Posting) : Type 0 where
   pub overcost : sum_to_ℤ (count_in setting) (λ i. (hour_of setting p i).lines.overcost) ≡ pos 0
 
 -- an hour comes out even: a posting that no fault was met by, with contracts that may stand
-pub even : (setting : Setting) (p : Posting) → Keeps setting.form → setting.days ≤ most_days → list_all (place_fits setting) setting.places ≡ true → Checked setting p → Even setting p
-even setting p keeps few fit checked = record {
+pub even : (setting : Setting) (p : Posting) → Keeps setting.form → list_all (place_fits setting) setting.places ≡ true → Checked setting p → Even setting p
+even setting p keeps fit checked = record {
   market = subst (λ n. sum_to_ℤ n (λ i. market_line p.price (line_at p.lines i)) ≡ neg_ℤ (residue_of p)) checked.long (market_together setting.agents p checked.long checked.kept checked.carried);
-  contract = contract_lines_together setting keeps few p checked.long checked.fits fit;
+  contract = contract_lines_together setting keeps p checked.long checked.fits fit;
   overcost = subst (λ n. sum_to_ℤ n (overcost_line setting.agents p) ≡ pos 0) checked.long (overcost_together setting.agents p checked.long checked.kept checked.carried);
 }
 

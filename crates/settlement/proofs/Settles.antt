@@ -1,9 +1,9 @@
 -- A contract that may stand, in an hour whose posting fits, may be asked of its form by the facts of that hour. Assumes nothing.
-use Rattle.std.proofs.Common.{◌≡◌, ℕ, ◌+◌, ◌-◌, ◌<◌, ◌≤◌, true, false, ◌&&◌, leb, List, length, inl, inr, arith}
+use Rattle.std.proofs.Common.{◌≡◌, ℕ, ◌+◌, ◌-◌, ◌<◌, ◌≤◌, min, true, false, ◌&&◌, leb, List, length, inl, inr, arith}
 use Rattle.std.{specs.List.list_all, proofs.lemmas.Bool.cases_Bool, proofs.lemmas.Bool.and_parts, proofs.lemmas.Bool.leb-true, proofs.lemmas.Bool.le-leb, proofs.lemmas.Bool.cond-true, proofs.lemmas.Bool.cond-false, proofs.lemmas.Bool.Decides.nat_tests, proofs.lemmas.List.Elements.All-weaker, proofs.lemmas.List.Sums.AllPass-from_list_all}
-use Rattle.calendar.specs.Limits.{most_days}
+use Rattle.calendar.specs.Limits.{most_hours}
 use Rattle.forms.specs.{declared.Contract.Contract, declared.Facts.Facts, declared.Parties.Parties, Known.valid_of, Known.measured_of, Known.hours_fit_longest, Meaning.MayAsk, Measured.prices_fit, Measured.withdrawn_fits, Measured.Measured, Parties.party_numbers, Roles.distributes, Roles.has_role, Terms.number_fits, Terms.numbers_apart, Terms.parties_fit, Terms.hours_fit, Terms.figures_fit}
-use Rattle.valuation.specs.Limits.{most_energy, most_price}
+use Rattle.valuation.specs.Limits.{most_energy}
 use Rattle.settlement.{specs.declared.agents.Agent.Agent, specs.declared.lines.Line.Line, specs.Agents.agent_at, specs.ContractFaults.parties_of, specs.ContractFaults.in_book, specs.ContractFaults.PartiesKnown, specs.ContractFaults.contract_faults, specs.ContractFaults.contract_fault, specs.ContractFaults.contract_fits, specs.Legs.distributed_at, specs.Legs.distributors_withdrawn, specs.Legs.facts_of, specs.Posting.Posting, specs.Posting.line_at, specs.PostingFaults.withdrawn_together, specs.PostingFaults.PostingFits, specs.Setting.Setting, specs.Setting.hours_in, proofs.Bounds.within_limits, proofs.FaultTables.kept, proofs.FaultTables.NoneMet, proofs.FaultTables.first_met_none, proofs.FaultTables.none_is, proofs.Sharing.counted_le}
 use Rattle.tally.proofs.Numbers.{sum_to_mono, sum_to_item_le, sum_to_spare}
 
@@ -15,6 +15,7 @@ pub record Fitting (setting : Setting) (c : Contract) : Type 0 where
   pub between : parties_fit c (parties_of setting.agents c) ≡ true
   pub apart : numbers_apart (party_numbers c) ≡ true
   pub hours : hours_fit (hours_in setting) c ≡ true
+  pub longest : hours_fit most_hours c ≡ true
   pub figures : figures_fit c ≡ true
   pub taken : setting.form.takes c (parties_of setting.agents c) ≡ true
 
@@ -25,17 +26,24 @@ numbers_known agents c held =
     (λ number in_it. let parts = and_parts (leb 1 number) (leb number (length agents)) in_it in (leb-true 1 number parts.0, leb-true number (length agents) parts.1))
     (party_numbers c) (AllPass-from_list_all (in_book agents) (party_numbers c) held)
 
+-- hours within fewer hours are within them all
+hours_fit_all : (fewer hours : ℕ) (c : Contract) → fewer ≤ hours → hours_fit fewer c ≡ true → hours_fit hours c ≡ true
+hours_fit_all fewer hours c within fits = grind (arith, nat_tests)
+
 pub fitting : (setting : Setting) (c : Contract) → contract_fits setting c ≡ true → Fitting setting c
 fitting setting c fits =
     let parties = parties_of setting.agents c in
     let none : NoneMet (contract_faults setting c) = first_met_none (contract_faults setting c) (none_is (contract_fault setting c) fits) in
     let between = and_parts _ (parties_fit c parties) (kept _ _ none.0) in
+    let fewer = min (hours_in setting) most_hours in
+    let hours : hours_fit fewer c ≡ true = kept _ _ none.1.0 in
     let others = and_parts (figures_fit c) (setting.form.takes c parties) (kept _ _ none.1.1.0) in
     record {
       known = numbers_known setting.agents c between.0;
       between = between.1;
       apart = (and_parts (list_all number_fits (party_numbers c)) _ (and_parts (list_all number_fits (party_numbers c) && numbers_apart (party_numbers c)) _ between.1).0).1;
-      hours = kept _ _ none.1.0;
+      hours = hours_fit_all fewer (hours_in setting) c (omega arith) hours;
+      longest = hours_fit_longest fewer c (omega arith) hours;
       figures = others.0;
       taken = others.1;
     }
@@ -88,12 +96,12 @@ module _ (setting : Setting) (p : Posting) (c : Contract) (long : length p.lines
       let prices : prices_fit (facts_of setting p c) ≡ true = grind (arith, nat_tests) in
       measured_of _ (facts_of setting p c) prices (le-leb _ _ sold.injected) withdrawn
 
-pub settles : (setting : Setting) (p : Posting) (c : Contract) → setting.days ≤ most_days → length p.lines ≡ length setting.agents → PostingFits p →
+pub settles : (setting : Setting) (p : Posting) (c : Contract) → length p.lines ≡ length setting.agents → PostingFits p →
     contract_fits setting c ≡ true → MayAsk setting.form c (parties_of setting.agents c) (facts_of setting p c)
-settles setting p c few long sane fits =
+settles setting p c long sane fits =
     let is = fitting setting c fits in
     record {
       taken = is.taken;
-      valid = valid_of c _ is.between (hours_fit_longest (hours_in setting) c (omega arith) is.hours) is.figures;
+      valid = valid_of c _ is.between is.longest is.figures;
       measured = facts_measured setting p c long sane is.known;
     }

@@ -56,15 +56,24 @@ fn together(weights: &[u32]) -> u64
     weights.iter().map(|weight| u64::from(*weight)).sum()
 }
 
-/// Whether there are points, and no weight carries them; the weights are scratch memory.
-fn is_uncarried_by<C: Carried>(carried: &C, weights: &mut [u32]) -> bool
+/// Whether all weights together are nothing; the weights are scratch memory.
+fn is_weightless_by<C: Carried>(carried: &C, weights: &mut [u32]) -> bool
     requires long { length weights.old ≡ C.agents carried.now }
     requires few { length weights.old ≤ most_agents }
     ensures { let weights = weights_in (C.agents carried.now) (C.weight carried.now) in
-        result ≡ (nat_lt 0 (C.points carried.now) && sum weights == 0) }
+        result ≡ (sum weights == 0) }
 {
     fill_weights(carried, weights);
-    carried.points() > 0 && together(weights) == 0
+    together(weights) == 0
+}
+
+/// Whether all weights together are nothing.
+fn is_weightless<C: Carried>(carried: &C) -> bool
+    ensures { let weights = weights_in (C.agents carried.now) (C.weight carried.now) in
+        result ≡ (sum weights == 0) }
+{
+    let mut weights = [0u32; PLACES];
+    is_weightless_by(carried, &mut weights[..carried.agents()])
 }
 
 /// Whether there are points, and no weight carries them.
@@ -72,8 +81,7 @@ pub(crate) fn is_uncarried<C: Carried>(carried: &C) -> bool
     ensures { let weights = weights_in (C.agents carried.now) (C.weight carried.now) in
         result ≡ (nat_lt 0 (C.points carried.now) && sum weights == 0) }
 {
-    let mut weights = [0u32; PLACES];
-    is_uncarried_by(carried, &mut weights[..carried.agents()])
+    carried.points() > 0 && is_weightless(carried)
 }
 
 /// Writes the part that each agent carries; the weights are scratch memory.

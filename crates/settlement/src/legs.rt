@@ -11,6 +11,7 @@ ghost use Rattle.settlement.specs.PostingFaults.{PostingFits};
 ghost use Rattle.settlement.specs.Setting.{setting_of};
 ghost use Rattle.std.proofs.Props.{props};
 
+use crate::admissions::parties;
 use crate::holdings::{Holding, points_alone};
 use crate::postings::{CheckedPosting, Posting};
 use crate::settings::Setting;
@@ -105,7 +106,7 @@ impl<F: ContractForm> HourSetting<'_, F> {
             result ≡ legs_of (setting_of (F.meaning s.form.now) s) posting contract }
         ensures balanced { Balanced result }
     {
-        let parties = self.setting.parties(contract);
+        let parties = parties(self.setting.agents, contract);
         let hour = ContractHour::new(contract, parties, self.facts(contract));
         settle_hour(self.setting.form, hour)
     }

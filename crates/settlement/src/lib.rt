@@ -3,6 +3,7 @@
 //! Nothing here knows how a book keeps what it is told; the book and the law over whole runs are built on the same words.
 #![tactic(auto)]
 
+mod admissions;
 mod agents;
 mod carrying;
 mod faults;
@@ -17,6 +18,7 @@ mod priced;
 mod settings;
 mod states;
 
+pub use admissions::Admission;
 pub use agents::Agent;
 pub use faults::{BookFault, LineFault};
 pub use holdings::Holding;

@@ -2,10 +2,11 @@
 ghost use Rattle.std.specs.Prelude.{◌≤◌};
 ghost use Rattle.calendar.specs.Limits.{most_days};
 
+use crate::admissions::Admission;
 use crate::agents::Agent;
 use crate::faults::BookFault;
 use calendar::Calendar;
-use forms::{Contract, ContractForm, Parties, Party, do_figures_fit, do_hours_fit, do_parties_fit};
+use forms::{Contract, ContractForm};
 
 /// What the hours of a month are settled with: the form that contracts are asked of, the month, the agents, and the contract places.
 #[derive(Drop)]
@@ -19,27 +20,23 @@ pub struct Setting<'a, F> {
 }
 
 impl<F: ContractForm> Setting<'_, F> {
-    ghost use Rattle.std.specs.Prelude.{◌≡◌, length};
+    ghost use Rattle.std.specs.Prelude.{◌≡◌};
     ghost use Rattle.std.specs.List.{list_all};
     ghost use Rattle.std.specs.Result.{result_err};
-    ghost use Rattle.settlement.specs.ContractFaults.{PartiesKnown, parties_of, in_book, contract_fault, contract_fits, place_fits};
+    ghost use Rattle.calendar.specs.Limits.{hours_of};
+    ghost use Rattle.settlement.specs.ContractFaults.{contract_fault, contract_fits, place_fits};
     ghost use Rattle.settlement.specs.Setting.{setting_of};
 
-    /// Whether a number is that of an agent of the book.
-    fn is_in_book(&self, number: u32) -> bool
-        ensures { result ≡ in_book self.now.agents.now number }
+    /// What decides which contracts may stand in the month.
+    fn admission(&self) -> Admission<'_, F>
+        ensures form { result.form.now ≡ self.now.form.now }
+        ensures hours { result.hours ≡ hours_of self.now.days }
+        ensures agents { result.agents.now ≡ self.now.agents.now }
     {
-        1 <= number && number as usize <= self.agents.len()
-    }
-
-    /// The two parties to a contract, both agents of the book.
-    pub(crate) fn parties(&self, contract: Contract) -> Parties
-        requires { PartiesKnown (length self.now.agents.now) contract }
-        ensures { result ≡ parties_of self.now.agents.now contract }
-    {
-        Parties {
-            seller: Party::from(&self.agents[contract.seller as usize - 1]),
-            buyer: Party::from(&self.agents[contract.buyer as usize - 1]),
+        Admission {
+            form: self.form,
+            hours: 24 * self.days,
+            agents: self.agents,
         }
     }
 
@@ -48,20 +45,7 @@ impl<F: ContractForm> Setting<'_, F> {
         ensures { let setting = setting_of (F.meaning self.now.form.now) self.now in
             result_err result ≡ contract_fault setting contract }
     {
-        if !self.is_in_book(contract.seller) || !self.is_in_book(contract.buyer) {
-            return Err(BookFault::ContractTerms);
-        }
-        let parties = self.parties(contract);
-        if !do_parties_fit(contract, parties) {
-            return Err(BookFault::ContractTerms);
-        }
-        if !do_hours_fit(contract, 24 * self.days) {
-            return Err(BookFault::ContractTerms);
-        }
-        if !do_figures_fit(contract) || !self.form.takes(contract, parties) {
-            return Err(BookFault::ContractTerms);
-        }
-        Ok(())
+        self.admission().check_contract(contract)
     }
 
     /// Whether a contract may stand.
@@ -69,18 +53,7 @@ impl<F: ContractForm> Setting<'_, F> {
         ensures { let setting = setting_of (F.meaning self.now.form.now) self.now in
             result ≡ contract_fits setting contract }
     {
-        self.check_contract(contract).is_ok()
-    }
-
-    /// Whether what is in a contract place may stand there.
-    fn is_place_fit(&self, place: &Option<Contract>) -> bool
-        ensures { let setting = setting_of (F.meaning self.now.form.now) self.now in
-            result ≡ place_fits setting place.now }
-    {
-        match place {
-            Some(contract) => self.may_stand(*contract),
-            None => true,
-        }
+        self.admission().may_stand(contract)
     }
 
     /// Whether what is in each contract place may stand there.
@@ -88,6 +61,6 @@ impl<F: ContractForm> Setting<'_, F> {
         ensures { let setting = setting_of (F.meaning self.now.form.now) self.now in
             result ≡ list_all (place_fits setting) self.now.contracts.now }
     {
-        self.contracts.iter().all(|place| self.is_place_fit(place))
+        self.admission().may_all_stand(self.contracts)
     }
 }
