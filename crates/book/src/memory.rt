@@ -133,11 +133,11 @@ impl View<'_, '_> {
             result ≡ stored_fits (F.meaning form.now) (figures_in month) memory }
     {
         agents_fit(self.pool.agents)
-            && self.contracts_fit(form, month)
             && marks_fit(self.marks)
             && energies_fit(u64::from(MOST_ENERGY), self.entries)
             && energies_fit(MOST_MONTH_ENERGY, self.accounts)
             && all_withdrawn(self.accounts) <= MOST_MONTH_ENERGY
+            && self.contracts_fit(form, month)
     }
 
     /// Refuses memory of another size than the month's.

@@ -27,12 +27,10 @@ pub(crate) const FREE: u8 = 0;
 /// The mark of an hour at which a posting stands.
 const POSTED: u8 = 1;
 
-/// Writes what a posting gives each agent at its hour, with the contracts that cover it; the fresh
-/// entries are scratch memory.
+/// Writes what a posting gives each agent at its hour, with the contracts that cover it.
 fn write_posting<F: ContractForm>(
     setting: &Setting<'_, F>,
     checked: &CheckedPosting<'_>,
-    fresh: &mut [Holding],
     accounts: &mut [Holding],
     entries: &mut [Holding],
 )
@@ -41,7 +39,6 @@ fn write_posting<F: ContractForm>(
     requires calendar { checked.now.stamp.calendar ≡ setting.now.calendar }
     requires fit { let setting = setting_of (F.meaning setting.now.form.now) setting.now in
         list_all (place_fits setting) setting.places ≡ true }
-    requires fresh_long { length fresh.old ≡ length setting.now.agents.now }
     requires accounts_long { length accounts.old ≡ length setting.now.agents.now }
     requires entries_long { let count = length setting.now.agents.now in
         length entries.old ≡ count * hours_of setting.now.days }
@@ -55,6 +52,9 @@ fn write_posting<F: ContractForm>(
         let hours = hours_of setting.days in
         accounts.new ≡ accounts_with hours posting.hour new entries.old accounts.old }
 {
+    let nothing: Holding = Pair::neutral();
+    let mut fresh = [nothing; MOST_AGENTS as usize];
+    let fresh = &mut fresh[..setting.agents.len()];
     setting.fill_hour(checked, fresh);
     replace_hour(checked.stamp, fresh, accounts, entries);
 }
@@ -79,15 +79,7 @@ pub fn post<F: ContractForm>(
     let setting = month.setting(form, pool.agents, pool.contracts);
     let checked = setting.check_posting(posting)?;
     checked.check_carriers()?;
-    let nothing: Holding = Pair::neutral();
-    let mut fresh = [nothing; MOST_AGENTS as usize];
-    write_posting(
-        &setting,
-        &checked,
-        &mut fresh[..pool.agents.len()],
-        ledger.accounts,
-        ledger.entries,
-    );
+    write_posting(&setting, &checked, ledger.accounts, ledger.entries);
     ledger.marks[posting.hour as usize] = POSTED;
     Ok(())
 }

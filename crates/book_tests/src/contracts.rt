@@ -1,7 +1,11 @@
 //! Contracts entered in a book and cancelled.
-use crate::desk::{ACCEPTED, BLOCK, Loan, Memory, RIGHT, Refusal, SHARE, Told, open_on, refused};
+use crate::desk::{
+    ACCEPTED, BLOCK, DISTRIBUTOR, GENERATOR, Loan, Memory, RIGHT, Refusal, SHARE, Told, open_on,
+    refused,
+};
 use book::{BookFault, NumberedContract, OpenMonth, cancel, enter};
 use forms::{Contract, Product};
+use settlement::Admission;
 use std::process::Abort;
 
 /// Enters a contract.
@@ -237,6 +241,50 @@ fn contracts_that_are_refused(rt: HostRuntime) {
     }
     for terms in WRONG_SHARES {
         try_contract(&rt, terms, refused(13, 0));
+    }
+}
+
+/// Whether the block may stand from hour 5 to this one, where there are so many hours: asked alone, and as what is in a place.
+fn stands_until(hours: u32, last: u32) -> [bool; 3] {
+    let agents = [GENERATOR, DISTRIBUTOR];
+    let admission = Admission {
+        form: &Product,
+        hours,
+        agents: &agents,
+    };
+    let contract = Contract { last, ..BLOCK };
+    [
+        admission.check_contract(contract).is_ok(),
+        admission.may_stand(contract),
+        admission.may_all_stand(&[None, Some(contract)]),
+    ]
+}
+
+// How many hours there are, whole days or not, the last one of the contract, and whether it may stand: in no month after hour 743.
+#[test]
+fn contracts_and_any_number_of_hours(rt: HostRuntime) {
+    let cases = [
+        (0, 5, false),
+        (5, 5, false),
+        (6, 5, true),
+        (25, 24, true),
+        (25, 25, false),
+        (100, 99, true),
+        (100, 100, false),
+        (744, 743, true),
+        (744, 744, false),
+        (1_000, 743, true),
+        (1_000, 744, false),
+        (u32::MAX, 743, true),
+        (u32::MAX, 744, false),
+        (u32::MAX, u32::MAX, false),
+    ];
+    for (hours, last, stands) in cases {
+        assert_eq!(rt;
+            stands_until(hours, last),
+            [stands; 3],
+            "{hours} hours, until hour {last}"
+        );
     }
 }
 
