@@ -7,9 +7,9 @@ use Rattle.settlement.specs.declared.{agents.Agent.Agent, states.State.TheVarian
 use Rattle.book.specs.{declared.months.MonthFigures.MonthFigures, declared.statements.Statement.Statement, Memory.Memory, Opening.open_fault}
 use Rattle.law.specs.{Law.Book, Law.Ran, Replies.Reply, Replies.is_done, Requests.Request, Requests.told_without, Standing.Standing, Worked.residue_after}
 use Rattle.law.proofs.{Lawful.settled, Sound.Opened}
-use Rattle.runs.specs.{Reading.opening_of, Reading.Answer, Reading.reply_of, Runs.Kept, Runs.kept_of, Runs.answers_to, Runs.kept_after, Runs.all_done, Runs.statements_in, Runs.statements_fault, Runs.together}
+use Rattle.runs.specs.{Reading.opening_of, Reading.Answer, Reading.reply_of, Runs.Kept, Runs.kept_of, Runs.answers_to, Runs.all_done, Runs.statements_in, Runs.statements_fault, Runs.together}
 use Rattle.runs.proofs.{Run.heard_by, Run.told_by, Books.is_opened, Books.kept_holds, Books.kept_opens, Books.kept_emptied, Books.kept_states, Books.kept_ran}
-use Rattle.audit.specs.{declared.audits.Report.Report, Audits.book_of, Audits.AllRan, Audits.SettledIn, Cases.Case, Cases.opening_in, Cases.standing_in, Cases.again, Cases.begun, Cases.ended, Cases.answered, Found.Found, Found.places_fit}
+use Rattle.audit.specs.{declared.audits.Report.Report, Audits.book_of, Audits.RanOnMemory, Audits.AllRan, Audits.SettledIn, Cases.Case, Cases.opening_in, Cases.standing_in, Cases.again, Cases.begun, Cases.ended, Found.Found, Found.places_fit, declared.totals.Totals.Totals, Totals.SettledOne}
 
 -- all that was answered was done
 pub done_told : (answers : List Answer) → all_done answers ≡ list_all is_done (map reply_of answers)
@@ -87,14 +87,29 @@ module _ {case : Case} {m : Memory} (lent : Opens case m) where
 
   -- ---- the law
 
+  -- the month was opened
+  case_opened : Opened (opening_in case)
+  case_opened = subst (λ agents. Opened (opening_of case.figures agents)) lent.agents (is_opened case.figures m lent.opens)
+
   pub law_holds : (found : Found) (report : Report) → AllRan case m found →
       report.balances ≡ together (statements_in case.figures (ended true case m).memory) →
       report.balances_without ≡ together (statements_in case.figures (ended false case m).memory) →
       report.balances_again ≡ together (statements_in case.figures (ended true (again case) m).memory) →
       report.residue ≡ residue_after (opening_in case) (standing_in case) → SettledIn case m found report
   law_holds found report all one two three residue =
-      settled case.form lent.keeps (opening_in case) (subst (λ agents. Opened (opening_of case.figures agents)) lent.agents (is_opened case.figures m lent.opens)) case.requests _ _ _ _
+      settled case.form lent.keeps (opening_in case) case_opened case.requests _ _ _ _
       (ran true case.requests _ _ _ (ap (map reply_of) all.first.told) all.first.stated one)
       (ran false case.requests _ _ _ (ap (λ answers. told_without case.requests (map reply_of answers)) all.second.told) all.second.stated two)
       (ran true (again case).requests _ _ _ refl all.third.stated three)
+      residue
+
+  -- and where the first alone was run
+  pub law_of_one : (answers : List Answer) (statements : List Statement) (totals : Totals) → RanOnMemory true case m answers statements →
+      totals.balances ≡ together (statements_in case.figures (ended true case m).memory) →
+      totals.residue ≡ residue_after (opening_in case) (standing_in case) → SettledOne case m answers statements totals
+  law_of_one answers statements totals first sum residue =
+      settled case.form lent.keeps (opening_in case) case_opened case.requests _ _ _ _
+      (ran true case.requests _ _ _ (ap (map reply_of) first.told) first.stated sum)
+      (ran false case.requests _ _ _ refl refl refl)
+      (ran true (again case).requests _ _ _ refl refl refl)
       residue

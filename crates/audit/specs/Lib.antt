@@ -5,3 +5,4 @@ pub mod Again
 pub mod Found
 pub mod Compared
 pub mod Audits
+pub mod Totals

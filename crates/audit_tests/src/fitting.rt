@@ -12,7 +12,7 @@ use std::test::Fail;
 
 /// A part that is lent to an audit.
 #[derive(Clone, Copy, Debug)]
-enum Part {
+pub(crate) enum Part {
     Answers,
     AnswersWithout,
     Statements,
@@ -39,7 +39,7 @@ const PARTS: [Part; 10] = [
 ];
 
 /// Takes a place from a part.
-fn shorten(desk: &mut Desk, part: Part) {
+pub(crate) fn shorten(desk: &mut Desk, part: Part) {
     let _ = match part {
         Part::Answers => desk.answers.pop().is_some(),
         Part::AnswersWithout => desk.answers_without.pop().is_some(),
@@ -73,7 +73,7 @@ fn lengthen(desk: &mut Desk, part: Part) -> Result<(), AllocError> {
 
 impl Desk {
     /// Whether memory is as it was before an audit.
-    fn has_old_memory(&self) -> bool {
+    pub(crate) fn has_old_memory(&self) -> bool {
         self.accounts
             .iter()
             .all(|account| *account == stale_entry())
@@ -86,7 +86,7 @@ impl Desk {
     }
 
     /// Whether every statement is as it was before an audit.
-    fn has_old_statements(&self) -> bool {
+    pub(crate) fn has_old_statements(&self) -> bool {
         self.statements.iter().all(|one| *one == stale_statement())
             && self
                 .statements_without
@@ -99,7 +99,7 @@ impl Desk {
     }
 
     /// Whether every answer is as it was before an audit.
-    fn has_old_answers(&self, heap: Global) -> Result<bool, AllocError> {
+    pub(crate) fn has_old_answers(&self, heap: Global) -> Result<bool, AllocError> {
         let first = all_said(heap, &self.answers)?;
         let second = all_said(heap, &self.answers_without)?;
         let stale = Said::Refused(11, 0);
@@ -129,7 +129,7 @@ impl Desk {
 }
 
 /// The figures of an opening: agents, days and weekday.
-fn figures_of((agents, days, weekday): (u32, u32, u32)) -> MonthFigures {
+pub(crate) fn figures_of((agents, days, weekday): (u32, u32, u32)) -> MonthFigures {
     MonthFigures {
         agents,
         days,

@@ -9,6 +9,8 @@ mod desk;
 #[cfg(test)]
 mod fitting;
 #[cfg(test)]
+mod hours;
+#[cfg(test)]
 mod months;
 #[cfg(test)]
 mod orders;
@@ -21,5 +23,7 @@ mod profiles;
 mod reports;
 #[cfg(test)]
 mod sold;
+#[cfg(test)]
+mod totals;
 
 pub use profiles::audit_profiles;

@@ -3,25 +3,28 @@ use crate::choices::{Choice, place};
 use crate::expected::Expected;
 use crate::numbers::number;
 use forms::Delivery;
-use std::str::Split;
 
-/// What is left of a line, in the pieces between its spaces.
+/// What is left of a line.
 #[derive(Drop)]
 pub(crate) struct Fields<'a> {
-    pieces: Split<'a, char>,
+    rest: &'a str,
 }
 
 impl<'a> Fields<'a> {
     /// The fields of a line.
     pub(crate) fn new(line: &'a str) -> Fields<'a> {
-        Fields {
-            pieces: line.split(' '),
-        }
+        Fields { rest: line }
     }
 
     /// The next word, where one is left.
     pub(crate) fn word(&mut self) -> Option<&'a str> {
-        self.pieces.find(|piece| !piece.is_empty())
+        let text = self.rest.trim_start_matches(' ');
+        if text.is_empty() {
+            return None;
+        }
+        let (word, rest) = text.split_once(' ').unwrap_or((text, ""));
+        self.rest = rest;
+        Some(word)
     }
 
     /// The word after a label.

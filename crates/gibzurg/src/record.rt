@@ -1,7 +1,7 @@
-//! A book's opening with the calls after it, and what an audit finds of them.
+//! A book's opening with the calls after it, what they come to, and what an audit finds of them.
 use crate::buffers::Buffers;
 use crate::expected::Expected;
-use audit::{Answer, Call, Findings, Report, Told};
+use audit::{Answer, Call, Findings, Report, Told, Totals};
 use book::{Agent, BookFault, MonthFigures, Statement};
 use forms::{Contract, Product, Role};
 use std::alloc::{AllocError, Global};
@@ -98,6 +98,24 @@ impl Record {
             opening,
             calls: Vec::new(heap),
         }
+    }
+
+    /// Settles one book, in memory of its own, for what all statements come to together.
+    pub(crate) fn totals(&self, heap: Global) -> Heard<Totals> {
+        let figures = self.opening.figures;
+        let agents = &self.opening.agents;
+        let skipped: Answer = Ok(Told::Skipped);
+        let mut buffers = Buffers::new(heap, figures)?;
+        let mut answers = vec![in heap; skipped; self.calls.len()]?;
+        let mut statements = vec![in heap; Statement::blank(); agents.len()]?;
+        Ok(audit::settle(
+            figures,
+            &Product,
+            &self.calls,
+            &mut buffers.lend(agents),
+            &mut answers,
+            &mut statements,
+        ))
     }
 
     /// Settles the three books of an audit, in memory of its own.

@@ -49,10 +49,12 @@ pub(crate) fn run<D: Desk>(heap: Global, text: &str, desk: &mut D) -> Result<(),
         begun: None,
         desk,
     };
+    let mut last: usize = 0;
     for (line, text) in (1..).zip(text.split_terminator('\n')) {
+        last = line;
         session.hear(line, text)?;
     }
-    session.finish(text.split_terminator('\n').count().saturating_add(1))
+    session.finish(last.saturating_add(1))
 }
 
 impl<D: Desk> Session<'_, D> {

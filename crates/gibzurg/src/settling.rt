@@ -108,8 +108,8 @@ impl Clerk<'_> {
         let Some(book) = &self.book else {
             return Ok(());
         };
-        match book.record().audit(self.rt.alloc())? {
-            Ok(audited) => Ok(self.rt.println(Totals::from(audited.report))?),
+        match book.record().totals(self.rt.alloc())? {
+            Ok(totals) => Ok(self.rt.println(Totals::from(totals))?),
             Err(fault) => self.say(line, Heading::Statements, Err(Undone::Refused(fault))),
         }
     }

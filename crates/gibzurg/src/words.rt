@@ -1,6 +1,6 @@
 //! What the program says of the calls that it makes.
 use crate::dollars::Dollars;
-use audit::{Call, Report};
+use audit::Call;
 use book::{BookFault, Statement};
 use forms::Role;
 use settlement::State;
@@ -155,11 +155,11 @@ pub(crate) struct Totals {
     pub(crate) residue: i64,
 }
 
-impl From<Report> for Totals {
-    fn from(report: Report) -> Totals {
+impl From<audit::Totals> for Totals {
+    fn from(settled: audit::Totals) -> Totals {
         Totals {
-            balances: report.balances,
-            residue: report.residue,
+            balances: settled.balances,
+            residue: settled.residue,
         }
     }
 }
